@@ -1,0 +1,7 @@
+pub mod Refusals
+pub mod Format
+pub mod Checks
+pub mod Numbers
+pub mod Reading
+pub mod Writing
+pub mod Typed
