@@ -1,3 +1,5 @@
 pub mod Judged
 pub mod Blocks
 pub mod SheetOf
+pub mod Over
+pub mod Written

@@ -113,7 +113,8 @@ impl Counts {
     /// The byte at which the first form begins.
     pub(crate) fn forms_start(self) -> usize
         requires { ⌜ judged (count-checks self) ≡ Ok tt ⌝ }
-        ensures { λ r. ⌜ r ≡ forms-start self ⌝ }
+        ensures value { λ r. ⌜ r ≡ forms-start self ⌝ }
+        ensures bound { λ r. ⌜ r ≤ 2096 ⌝ }
     {
         LINES_START + 4 * self.line_numbers()
     }
@@ -121,7 +122,8 @@ impl Counts {
     /// How many bytes the whole sheet has.
     pub(crate) fn total_length(self) -> usize
         requires { ⌜ judged (count-checks self) ≡ Ok tt ⌝ }
-        ensures { λ r. ⌜ r ≡ total-length self ⌝ }
+        ensures value { λ r. ⌜ r ≡ total-length self ⌝ }
+        ensures bound { λ r. ⌜ r ≤ 4016 ⌝ }
     {
         self.forms_start() + 4 * self.form_numbers()
     }

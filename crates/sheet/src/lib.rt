@@ -1,8 +1,8 @@
 // Sheets of equations between service centres: the binary format, its reader and its writer.
 
-pub mod content;
 pub mod format;
 mod numbers;
 pub mod reader;
 pub mod refusal;
 pub mod typed;
+pub mod writer;
