@@ -6,6 +6,7 @@ use Prim.Native.Nat.{ℕ, _+_, _*_, _%_, _<_}
 use native.Mathlib.Omega.{arith}
 use lib.IntN.{ℤ, pos}
 use lib.ListN.{length, getD, set, take}
+use Rattle.std.proofs.shelf.Elements.{all-getD}
 use Rattle.std.proofs.shelf.Lists.{take-at}
 use lib.Seq.{getD-set-same, getD-set-other}
 use borrow.Author.Count.{below-more}
@@ -19,7 +20,7 @@ use Rattle.std.specs.declared.result.Result.the-variants.{Ok, Err}
 use Rattle.sheet.specs.declared.refusal.Refusal.the-variants.{NoMark, Number}
 use Rattle.sheet.specs.Checks.{Check, judged}
 use Rattle.sheet.specs.Numbers.{number-at, numbers, in-range, block-check, block-checks}
-use Rattle.sheet.proofs.Judged.{judged-all, judged-first}
+use Rattle.sheet.proofs.Judged.{Holds, holds-from-judged, judged-all, judged-first}
 
 none : Check
 none = (true, NoMark)
@@ -42,6 +43,10 @@ module _ (n w start : ℕ) (zs : List ℤ) where
   block-stops i l h f =
       judged-first none (block-checks n w start zs) i (omega (arith, long)) (λ k m. ap (λ (c : Check). c .0) (place k (omega arith)) ∙ h k m) (ap (λ (c : Check). c .0) (place i l) ∙ f)
       ∙ ap (λ (c : Check). Err (c .1)) (place i l)
+
+pub block-holds : (n w start : ℕ) (zs : List ℤ) → judged (block-checks n w start zs) ≡ Ok tt → (k : ℕ) → k < length zs → in-range n (k % w) (getD zs k (pos 0)) ≡ true
+block-holds n w start zs h k l =
+    sym (ap (λ (c : Check). c .0) (place n w start zs k l)) ∙ all-getD Holds (block-checks n w start zs) k none (omega (arith, long n w start zs)) (holds-from-judged (block-checks n w start zs) h)
 
 module _ (bytes : List ℕ) (start count : ℕ) where
   pub length-numbers : length (numbers bytes start count) ≡ count

@@ -50,3 +50,8 @@ holds-from-judged ((false, e) ∷ cs) h = let z : _≡_ {A = ℕ} 0 1 = cc in ab
 pub judged-from-holds : (cs : List Check) → All Holds cs → judged cs ≡ Ok tt
 judged-from-holds [] h = refl
 judged-from-holds (c ∷ cs) h = rw (h .0) (judged-from-holds cs (h .1))
+
+pub judged-split : (cs ds : List Check) → judged (cs ++ ds) ≡ Ok tt → (judged cs ≡ Ok tt) × (judged ds ≡ Ok tt)
+judged-split [] ds h = (refl, h)
+judged-split ((true, e) ∷ cs) ds h = judged-split cs ds h
+judged-split ((false, e) ∷ cs) ds h = let z : _≡_ {A = ℕ} 0 1 = cc in absurd (omega arith)

@@ -5,20 +5,21 @@
 --     write-checks c ls fs room   what is checked, in order, before those are written into `room` bytes
 --     written s memory         what that answers
 --     memory-after s memory    what the memory holds then
-use mathlib.Core.Bool.{_&&_}
+--     WritesAs s bs            writing s leaves the bytes bs, in any memory with room
 use mathlib.Core.List.{List, [], _∷_, _++_}
-use Prim.Native.Nat.{ℕ, _+_}
+use mathlib.Core.Path.{_≡_}
+use Prim.Native.Nat.{ℕ, _+_, _≤_}
 use lib.Dec.{leb, eqb}
 use lib.IntN.{ℤ}
 use lib.ListN.{length, take, drop}
 use Rattle.std.specs.Joined.{joined}
 use Rattle.std.specs.declared.result.Result.{Result}
-use Rattle.std.specs.declared.result.Result.the-variants.{Ok, Err}
+use Rattle.std.specs.declared.result.Result.the-variants.{Ok}
 use Rattle.sheet.specs.declared.format.Counts.{Counts}
 use Rattle.sheet.specs.declared.format.Mark.{Mark}
 use Rattle.sheet.specs.declared.refusal.Refusal.{Refusal}
 use Rattle.sheet.specs.declared.refusal.Refusal.the-variants.{Length}
-use Rattle.sheet.specs.Checks.{Check, judged, after}
+use Rattle.sheet.specs.Checks.{Check, judged, after, if-passed}
 use Rattle.sheet.specs.Format.{letters, header-fields, line-numbers, form-numbers, total-length}
 use Rattle.sheet.specs.Numbers.{field-bytes, number-bytes}
 use Rattle.sheet.specs.Reading.{Content, count-checks, number-checks}
@@ -49,4 +50,8 @@ written s memory = after (judged (write-checks (s .counts) (s .lines) (s .forms)
 
 -- the sheet and then what stood behind it; a refusal leaves all as it was
 abbrev pub memory-after : Content → List ℕ → List ℕ
-memory-after s memory = elim (judged (write-checks (s .counts) (s .lines) (s .forms) (length memory))) [ Ok _ ↦ over 0 (sheet-bytes s) memory | Err _ ↦ memory ]
+memory-after s memory = if-passed (judged (write-checks (s .counts) (s .lines) (s .forms) (length memory))) (over 0 (sheet-bytes s) memory) memory
+
+-- writing s into any memory with room for them leaves the bytes bs
+abbrev pub WritesAs : Content → List ℕ → Type 0
+WritesAs s bs = (memory : List ℕ) → length bs ≤ length memory → (written s memory ≡ Ok (length bs)) × (memory-after s memory ≡ over 0 bs memory)

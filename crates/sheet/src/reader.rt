@@ -4,10 +4,12 @@ ghost use Prim.Native.Nat.{_+_, _*_, _≤_};
 ghost use lib.ListN.{length};
 ghost use Rattle.std.specs.declared.result.Result.the-variants.{Ok, Err};
 ghost use Rattle.std.specs.Results.{Cases};
+ghost use Rattle.std.specs.Vec.{made};
 ghost use Rattle.sheet.specs.Checks.{judged};
 ghost use Rattle.sheet.specs.Format.{line-numbers, form-numbers, total-length};
 ghost use Rattle.sheet.specs.Reading.{sheet-of, counts-of, lines-in, forms-in, count-checks, layout-checks, header-checks, line-checks, form-checks, HeaderOf, BlockRead};
-ghost use Rattle.sheet.specs.Typed.{content-read};
+ghost use Rattle.sheet.specs.Typed.{says, content-read};
+ghost use Rattle.sheet.specs.Writing.{WritesAs};
 use crate::format::Counts;
 use crate::format::FORMS_FIELD;
 use crate::format::FORMS_START_FIELD;
@@ -122,6 +124,7 @@ fn read_forms(bytes: &[u8], counts: Counts) -> Result<[i32; MOST_FORM_NUMBERS], 
 /// Reads a sheet, or says why the bytes are none.
 pub fn read(bytes: &[u8]) -> Result<Sheet, Refusal>
     ensures value { λ r. ⌜ content-read r ≡ sheet-of (now (bytes .entry)) ⌝ }
+    ensures back { λ r. ⌜ made r (λ s. WritesAs (says s) (now (bytes .entry))) ⌝ }
 {
     let Header { mark, counts } = read_header(bytes)?;
     let lines = read_lines(bytes, counts)?;
