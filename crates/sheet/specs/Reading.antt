@@ -2,15 +2,16 @@
 --     Content           the mark, the counts, and the numbers of the lines and of the forms, row by row
 --     row w i zs        row i of the numbers zs, counted from 0, where a row has w of them
 --     sheet-of bs       the content of the sheet bs, or why bs is none
-use mathlib.Core.Bool.{_&&_}
+use mathlib.Core.Bool.{_&&_, cond}
 use mathlib.Core.List.{List, [], _∷_, _++_}
 use mathlib.Core.Path.{_≡_}
 use Prim.Native.Nat.{ℕ, _+_, _*_}
-use lib.Dec.{leb, eqb}
+use lib.Dec.{leb, ltb, eqb}
 use lib.IntN.{ℤ}
 use lib.ListN.{length, take, drop}
 use Rattle.std.specs.Options.{isSome, valueOr}
-use Rattle.std.specs.declared.option.Option.the-variants.{Some}
+use Rattle.std.specs.declared.option.Option.{Option}
+use Rattle.std.specs.declared.option.Option.the-variants.{Some, None}
 use Rattle.std.specs.declared.result.Result.{Result}
 use Rattle.std.specs.declared.result.Result.the-variants.{Ok, Err}
 use Rattle.sheet.specs.declared.format.Counts.{Counts}
@@ -30,6 +31,13 @@ pub record Content : Type 0 where
 
 abbrev pub row : ℕ → ℕ → List ℤ → List ℤ
 row w i zs = take w (drop (i * w) zs)
+
+-- line and form i, counted from 0
+abbrev pub line-of : Content → ℕ → Option (List ℤ)
+line-of s i = cond (ltb i (s .counts .lines)) (Some (row (s .counts .unknowns + 1) i (s .lines))) None
+
+abbrev pub form-of : Content → ℕ → Option (List ℤ)
+form-of s i = cond (ltb i (s .counts .forms)) (Some (row (s .counts .unknowns) i (s .forms))) None
 
 abbrev pub counts-of : List ℕ → Counts
 counts-of bytes = record { unknowns = field-at bytes unknowns-field; lines = field-at bytes lines-field; forms = field-at bytes forms-field }

@@ -4,5 +4,6 @@ pub mod format;
 mod numbers;
 pub mod reader;
 pub mod refusal;
+mod rows;
 pub mod typed;
 pub mod writer;
