@@ -104,7 +104,7 @@ block-back : (pre : List ℕ) (zs : List ℤ) (post : List ℕ) (start count : �
 block-back pre zs post start count e f h =
     let bs = joined number-bytes zs ++ post in
     sym (fill-by-all (λ k. number-at (pre ++ bs) (start + 4 * k)) zs count (pos 0) f (λ k l.
-        sym (ap (λ n. number-at (pre ++ bs) (n + 4 * k)) (sym e) ∙ number-at-append pre bs (4 * k) ∙ written-at zs post h k (omega arith))))
+    sym (ap (λ n. number-at (pre ++ bs) (n + 4 * k)) (sym e) ∙ number-at-append pre bs (4 * k) ∙ written-at zs post h k (omega arith))))
 
 module _ (s : Content) (sound : Sound s) where
   lines-back : lines-in (sheet-bytes s) (s .counts) ≡ s .lines
@@ -213,10 +213,9 @@ all-written s memory first second last at n ok p q r t u =
     let room : length (sheet-bytes s) ≤ length memory = omega (arith, long, known .1) in
     let told = writes-as s sound memory room in
     let whole : last ≡ over 0 (sheet-bytes s) memory =
-          t
-          ∙ (λ i. over (r i) (joined number-bytes (s .forms)) ((q ∙ ap (over 16 (joined number-bytes (s .lines))) p) i))
-          ∙ put-all s memory (sound .lines-long) (sound .forms-long) (known .1) in
-    (
+    t
+    ∙ (λ i. over (r i) (joined number-bytes (s .forms)) ((q ∙ ap (over 16 (joined number-bytes (s .lines))) p) i))
+    ∙ put-all s memory (sound .lines-long) (sound .forms-long) (known .1) in (
       ap Ok (u ∙ sym long) ∙ sym (told .0),
       whole ∙ sym (told .1),
       ap sheet-of ((λ i. take (u i) (whole i)) ∙ take-over 0 (sheet-bytes s) memory (total-length (s .counts)) (omega (arith, long)) (known .1)) ∙ sheet-back s sound,

@@ -105,5 +105,5 @@ content-of bytes = record {
 abbrev pub sheet-of : List ℕ → Result Content Refusal
 sheet-of bytes =
     after (judged (header-checks bytes)) (λ _.
-        after (judged (number-checks (counts-of bytes) (lines-in bytes (counts-of bytes)) (forms-in bytes (counts-of bytes)))) (λ _.
-            Ok (content-of bytes)))
+    after (judged (number-checks (counts-of bytes) (lines-in bytes (counts-of bytes)) (forms-in bytes (counts-of bytes)))) (λ _.
+    Ok (content-of bytes)))

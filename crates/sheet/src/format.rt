@@ -9,25 +9,36 @@ use crate::refusal::Refusal;
 
 /// The letters of the two marks.
 pub const FRAC: &[u8; 4] = b"FRAC";
+
 pub const REST: &[u8; 4] = b"REST";
 
 /// The most that a sheet may have of each.
 pub const MOST_UNKNOWNS: usize = 12;
+
 pub const MOST_LINES: usize = 40;
+
 pub const MOST_FORMS: usize = 40;
+
 pub const MOST_LINE_NUMBERS: usize = MOST_LINES * (MOST_UNKNOWNS + 1);
+
 pub const MOST_FORM_NUMBERS: usize = MOST_FORMS * MOST_UNKNOWNS;
 
 /// How far from zero a number may lie.
 pub const COEFFICIENT_LIMIT: u32 = 1_000_000;
+
 pub const RIGHT_SIDE_LIMIT: u32 = 1_000_000_000;
 
 /// The bytes at which the fields of the header stand.
 pub const UNKNOWNS_FIELD: usize = 4;
+
 pub const LINES_FIELD: usize = 6;
+
 pub const FORMS_FIELD: usize = 8;
+
 pub const LINES_START_FIELD: usize = 10;
+
 pub const FORMS_START_FIELD: usize = 12;
+
 pub const TOTAL_FIELD: usize = 14;
 
 /// The byte at which the first line begins, just past the header.

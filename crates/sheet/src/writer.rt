@@ -58,7 +58,12 @@ fn put_header(memory: &mut [u8], mark: Mark, counts: Counts)
 }
 
 /// Whether each number of a block of rows is in its range, or the place of the first that is not.
-fn check_numbers(numbers: &[i32], start: usize, width: usize, unknowns: usize) -> Result<(), Refusal>
+fn check_numbers(
+    numbers: &[i32],
+    start: usize,
+    width: usize,
+    unknowns: usize,
+) -> Result<(), Refusal>
     requires some { ⌜ 1 ≤ width ⌝ }
     requires few { ⌜ start + 4 * length (now numbers) ≤ 4016 ⌝ }
     ensures { λ r. ⌜ r ≡ judged (block-checks unknowns width start (now (numbers .entry))) ⌝ }
@@ -97,7 +102,12 @@ fn check(counts: Counts, lines: &[i32], forms: &[i32], room: usize) -> Result<()
     counts.check()?;
     check_lengths(counts, lines.len(), forms.len(), room)?;
     check_numbers(lines, LINES_START, counts.unknowns + 1, counts.unknowns)?;
-    check_numbers(forms, counts.forms_start(), counts.unknowns, counts.unknowns)
+    check_numbers(
+        forms,
+        counts.forms_start(),
+        counts.unknowns,
+        counts.unknowns,
+    )
 }
 
 /// Writes a sheet at the front of `memory`, and says how long it is.

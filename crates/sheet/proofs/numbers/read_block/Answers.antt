@@ -36,8 +36,7 @@ pub loop-column-again : need.loop-column-again
 loop-column-again c =
     let h = inside (c .rows-test .taken) (c .loop-column-test .taken) in
     let f : SFits w32 (c .number-x .result) = search needs in
-    let here = in-column (c .args .block .unknowns) (c .args .block .width) (c .rows .row) (c .loop-column .column) _ _ _ (c .loop-column-test .taken) f (c .number-x .ensures) (c .is-in-range .ensures) ∙ c .if-not-is-in-range .left in
-    (
+    let here = in-column (c .args .block .unknowns) (c .args .block .width) (c .rows .row) (c .loop-column .column) _ _ _ (c .loop-column-test .taken) f (c .number-x .ensures) (c .is-in-range .ensures) ∙ c .if-not-is-in-range .left in (
       c .loop-column .inv .0,
       (λ t l. below-more _ _ (c .loop-column .inv .1) here t (omega arith)),
       λ t l. copied-more _ _ _ _ _ (omega arith) (toZ-ofZ w32 (c .number-x .result) f ∙ c .number-x .ensures) (c .loop-column .inv .2) t (omega arith),
@@ -58,6 +57,6 @@ returns-then-not-is-in-range c =
     let at = c .rows .row * c .args .block .width + c .loop-column .column in
     record {
       verdict = sym (fine-stops (c .args .block .unknowns) (c .args .block .width) (c .args .block .start) (c .args .bytes .now) (c .args .block .rows * c .args .block .width) at (omega arith) (c .loop-column .inv .1) here
-      ∙ ap (λ j. Err (Number (j + 1) (c .args .block .start + 4 * at))) (mod-mul-add (c .rows .row) (c .args .block .width) (c .loop-column .column) (c .loop-column-test .taken)));
+          ∙ ap (λ j. Err (Number (j + 1) (c .args .block .start + 4 * at))) (mod-mul-add (c .rows .row) (c .args .block .width) (c .loop-column .column) (c .loop-column-test .taken)));
       read = tt;
     }
