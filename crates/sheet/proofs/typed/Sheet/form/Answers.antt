@@ -14,4 +14,8 @@ part-result-end c =
     search needs
 
 pub returns : need.returns
-returns c = let s = c .args .self .now in row-read (s .counts .unknowns) (c .args .i) (s .counts .forms) (s .forms) (c .if-i-self .left)
+returns c =
+    let s = c .args .self .now in
+    let few = form-numbers-le (s .counts) (passed-from-ok (judged (count-checks (s .counts))) (s .counted)) in
+    let ends = row-ends (c .args .i) (s .counts .forms) (s .counts .unknowns) (c .if-i-self .left) in
+    record { value = row-read (s .counts .unknowns) (c .args .i) (s .counts .forms) (s .forms) (c .if-i-self .left); len = search needs }

@@ -15,4 +15,8 @@ part-result-end c =
     search needs
 
 pub returns : need.returns
-returns c = let s = c .args .self .now in row-read (s .counts .unknowns + 1) (c .args .i) (s .counts .lines) (s .lines) (c .if-i-self .left)
+returns c =
+    let s = c .args .self .now in
+    let few = line-numbers-le (s .counts) (passed-from-ok (judged (count-checks (s .counts))) (s .counted)) in
+    let ends = row-ends (c .args .i) (s .counts .lines) (s .counts .unknowns + 1) (c .if-i-self .left) in
+    record { value = row-read (s .counts .unknowns + 1) (c .args .i) (s .counts .lines) (s .lines) (c .if-i-self .left); len = search needs }
