@@ -2,7 +2,7 @@
 use mathlib.Core.Bool.{Bool, true, false}
 use mathlib.Core.List.{List, _++_}
 use mathlib.Core.Path.{_≡_, refl, sym, ap, subst, _∙_}
-use Prim.Native.Nat.{ℕ, _+_, _*_, _%_, _<_}
+use Prim.Native.Nat.{ℕ, suc, _+_, _*_, _%_, _<_, _≤_}
 use native.Mathlib.Omega.{arith}
 use lib.IntN.{ℤ, pos}
 use lib.ListN.{length, getD, set, take}
@@ -13,7 +13,8 @@ use borrow.Author.Count.{below-more}
 use mathlib.Core.Logic.{_≢_}
 use mir.Syntax.{w32}
 use mir.Val.{SFits, toZ, ofZ}
-use Rattle.std.proofs.shelf.Bits.{mod-mul-add}
+use native.Mathlib.Nat.{suc-mul}
+use Rattle.std.proofs.shelf.Bits.{mod-mul-add, mul-le}
 use Rattle.std.proofs.shelf.Signed.{toZ-ofZ}
 use Rattle.std.proofs.shelf.Counted.{length-map-counting, getD-map-counting, fill-by-all}
 use Rattle.std.specs.declared.result.Result.the-variants.{Ok, Err}
@@ -88,3 +89,7 @@ copied-all start bytes zs count e h = fill-by-all (λ k. number-at bytes (start 
 
 pub take-front : (bytes : List ℕ) (start count : ℕ) (xs rest : List ℤ) → xs ≡ numbers bytes start count → take count (xs ++ rest) ≡ numbers bytes start count
 take-front bytes start count xs rest e = take-at xs rest count (ap length e ∙ length-numbers bytes start count) ∙ e
+
+-- row i of h rows of w numbers ends within them
+pub row-ends : (i h w : ℕ) → i < h → i * w + w ≤ h * w
+row-ends i h w l = omega (arith, mul-le (suc i) w h w l (omega arith), suc-mul i w)

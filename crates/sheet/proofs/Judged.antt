@@ -5,6 +5,7 @@ use mathlib.Core.Path.{_≡_, refl, ap}
 use Prim.Native.Nat.{ℕ, zero, suc, _<_}
 use native.Mathlib.Omega.{arith}
 use lib.ListN.{length, getD}
+use Rattle.std.specs.Results.{isOk}
 use Rattle.std.specs.Vec.{made}
 use Rattle.std.specs.shelf.Lists.{All}
 use Rattle.std.specs.declared.result.Result.{Result}
@@ -55,3 +56,7 @@ pub judged-split : (cs ds : List Check) → judged (cs ++ ds) ≡ Ok tt → (jud
 judged-split [] ds h = (refl, h)
 judged-split ((true, e) ∷ cs) ds h = judged-split cs ds h
 judged-split ((false, e) ∷ cs) ds h = let z : _≡_ {A = ℕ} 0 1 = cc in absurd (omega arith)
+
+pub passed-from-ok : (r : Result (Unit {0}) Refusal) → isOk r ≡ true → r ≡ Ok tt
+passed-from-ok (Ok u) h = refl
+passed-from-ok (Err e) h = let z : _≡_ {A = ℕ} 0 1 = cc in absurd (omega arith)

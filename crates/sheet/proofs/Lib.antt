@@ -4,5 +4,4 @@ pub mod SheetOf
 pub mod Over
 pub mod Written
 pub mod Words
-pub mod RowParts
 pub mod RoundTrip

@@ -1,7 +1,9 @@
 // The layout of a sheet: its marks, its counts, where each field stands, and how large a number may be.
 ghost use mathlib.Core.Path.{_≡_};
 ghost use Prim.Native.Nat.{_+_, _*_, _≤_};
-ghost use Rattle.std.specs.declared.result.Result.the-variants.{Ok};
+ghost use mathlib.Core.Bool.{true};
+ghost use Rattle.std.specs.Results.{isOk};
+ghost use Rattle.std.specs.shelf.Text.{sameBytes};
 ghost use Rattle.sheet.specs.Checks.{judged};
 ghost use Rattle.sheet.specs.Format.{letters, mark-of, line-numbers, form-numbers, forms-start, total-length};
 ghost use Rattle.sheet.specs.Reading.{count-checks};
@@ -62,13 +64,20 @@ impl Mark {
         }
     }
 
-    /// The mark that some letters are, if any.
+    /// Whether some bytes are its letters.
+    fn is(self, bytes: &[u8]) -> bool
+        ensures { λ r. ⌜ r ≡ sameBytes (now (bytes .entry)) (letters self) ⌝ }
+    {
+        bytes == self.letters()
+    }
+
+    /// The mark whose letters some bytes are, if any.
     pub fn of(bytes: &[u8]) -> Option<Mark>
         ensures { λ r. ⌜ r ≡ mark-of (now (bytes .entry)) ⌝ }
     {
-        if bytes == FRAC {
+        if Mark::Frac.is(bytes) {
             Some(Mark::Frac)
-        } else if bytes == REST {
+        } else if Mark::Rest.is(bytes) {
             Some(Mark::Rest)
         } else {
             None
@@ -105,7 +114,7 @@ impl Counts {
 
     /// How many numbers the lines have.
     pub(crate) fn line_numbers(self) -> usize
-        requires { ⌜ judged (count-checks self) ≡ Ok tt ⌝ }
+        requires { ⌜ isOk (judged (count-checks self)) ≡ true ⌝ }
         ensures value { λ r. ⌜ r ≡ line-numbers self ⌝ }
         ensures bound { λ r. ⌜ r ≤ 520 ⌝ }
     {
@@ -114,7 +123,7 @@ impl Counts {
 
     /// How many numbers the forms have.
     pub(crate) fn form_numbers(self) -> usize
-        requires { ⌜ judged (count-checks self) ≡ Ok tt ⌝ }
+        requires { ⌜ isOk (judged (count-checks self)) ≡ true ⌝ }
         ensures value { λ r. ⌜ r ≡ form-numbers self ⌝ }
         ensures bound { λ r. ⌜ r ≤ 480 ⌝ }
     {
@@ -123,7 +132,7 @@ impl Counts {
 
     /// The byte at which the first form begins.
     pub(crate) fn forms_start(self) -> usize
-        requires { ⌜ judged (count-checks self) ≡ Ok tt ⌝ }
+        requires { ⌜ isOk (judged (count-checks self)) ≡ true ⌝ }
         ensures value { λ r. ⌜ r ≡ forms-start self ⌝ }
         ensures bound { λ r. ⌜ r ≤ 2096 ⌝ }
     {
@@ -132,7 +141,7 @@ impl Counts {
 
     /// How many bytes the whole sheet has.
     pub(crate) fn total_length(self) -> usize
-        requires { ⌜ judged (count-checks self) ≡ Ok tt ⌝ }
+        requires { ⌜ isOk (judged (count-checks self)) ≡ true ⌝ }
         ensures value { λ r. ⌜ r ≡ total-length self ⌝ }
         ensures bound { λ r. ⌜ r ≤ 4016 ⌝ }
     {

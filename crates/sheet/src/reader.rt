@@ -87,7 +87,7 @@ fn read_header(bytes: &[u8]) -> Result<Header, Refusal>
     Ok(Header { mark, counts })
 }
 
-/// The numbers of the lines, and then zeros.
+/// The numbers of the lines, at the front of the array.
 fn read_lines(bytes: &[u8], counts: Counts) -> Result<[i32; MOST_LINE_NUMBERS], Refusal>
     requires counted { ⌜ judged (count-checks counts) ≡ Ok tt ⌝ }
     requires long { ⌜ total-length counts ≡ length (now bytes) ⌝ }
@@ -104,7 +104,7 @@ fn read_lines(bytes: &[u8], counts: Counts) -> Result<[i32; MOST_LINE_NUMBERS], 
     Ok(numbers)
 }
 
-/// The numbers of the forms, and then zeros.
+/// The numbers of the forms, at the front of the array.
 fn read_forms(bytes: &[u8], counts: Counts) -> Result<[i32; MOST_FORM_NUMBERS], Refusal>
     requires counted { ⌜ judged (count-checks counts) ≡ Ok tt ⌝ }
     requires long { ⌜ total-length counts ≡ length (now bytes) ⌝ }

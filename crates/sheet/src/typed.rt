@@ -17,10 +17,24 @@ use crate::format::Mark;
 pub struct Sheet {
     pub(crate) mark: Mark,
     pub(crate) counts: Counts,
-    /// The numbers of the lines, row by row, and then zeros.
+    /// The numbers of the lines, row by row; the rest is unused.
     pub(crate) lines: [i32; MOST_LINE_NUMBERS],
-    /// The numbers of the forms, row by row, and then zeros.
+    /// The numbers of the forms, row by row; the rest is unused.
     pub(crate) forms: [i32; MOST_FORM_NUMBERS],
     ghost counted: { isOk (judged (count-checks counts)) ≡ true },
     ghost ranged: { isOk (judged (number-checks counts (take (line-numbers counts) lines) (take (form-numbers counts) forms))) ≡ true },
+}
+
+impl Sheet {
+    pub fn mark(&self) -> Mark
+        ensures { λ r. ⌜ r ≡ now (self .entry) .mark ⌝ }
+    {
+        self.mark
+    }
+
+    pub fn counts(&self) -> Counts
+        ensures { λ r. ⌜ r ≡ now (self .entry) .counts ⌝ }
+    {
+        self.counts
+    }
 }

@@ -23,12 +23,12 @@ loop-k-again c =
     let x = getD xs k (pos 0) in
     let f : SFits w32 x = search needs in
     elim (c .if-coefficient-ne0 .came) [
-      then-coefficient-ne0·in-Continue-push-term w ↦
-        (λ i. string-bytes (w .out-is i) ++ rest-text (w .first-is i) (terms (k + 1 + 1) (drop (k + 1) xs)))
-        ∙ sum-step xs k (c .loop-k-test .taken) _ (c .loop-k .first) _ (c .loop-k .inv) (λ z. w .if-coefficient-ne0 .taken (bits-from-zero x z)) _ (toZ-ofZ w32 x f) _ (w .sign .ensures) _ (w .in-Continue-push-term .ensures tt)
+      | then-coefficient-ne0·in-Continue-push-term w ↦
+          (λ i. string-bytes (w .out-is i) ++ rest-text (w .first-is i) (terms (k + 1 + 1) (drop (k + 1) xs)))
+          ∙ sum-step xs k (c .loop-k-test .taken) _ (c .loop-k .first) _ (c .loop-k .inv) (λ z. w .if-coefficient-ne0 .taken (bits-from-zero x z)) _ (toZ-ofZ w32 x f) _ (w .sign .ensures) _ (w .in-Continue-push-term .ensures tt)
       | else-coefficient-ne0 w ↦
-        (λ i. string-bytes (w .out-is i) ++ rest-text (w .first-is i) (terms (k + 1 + 1) (drop (k + 1) xs)))
-        ∙ sum-skip xs k (c .loop-k-test .taken) _ (c .loop-k .first) _ (c .loop-k .inv) (zero-from-bits x f (w .if-coefficient-ne0 .left))
+          (λ i. string-bytes (w .out-is i) ++ rest-text (w .first-is i) (terms (k + 1 + 1) (drop (k + 1) xs)))
+          ∙ sum-skip xs k (c .loop-k-test .taken) _ (c .loop-k .first) _ (c .loop-k .inv) (zero-from-bits x f (w .if-coefficient-ne0 .left))
     ]
 
 pub returns-then-first : need.returns-then-first
