@@ -164,7 +164,6 @@ pub fn list(heap: Global, bytes: &[u8]) -> Result<String, AllocError>
 }
 
 /// Does nothing: its contract is that the definition of a listing gives what was worked out by hand.
-pub fn worked()
+fn worked()
     ensures { λ _. ⌜ Worked ⌝ }
-{
-}
+{}

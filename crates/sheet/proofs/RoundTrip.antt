@@ -40,17 +40,17 @@ use Rattle.sheet.proofs.Words.{field-back, number-at-append, written-at, field
 use Rattle.sheet.proofs.Written.{Long, long, numbers-left, put-all, total-le, length-header, length-numbers-bytes, length-sheet}
 
 -- a number in range fits 32 bits
-limit-le : (n at : ℕ) (b : Bool) → cond b coefficient-limit right-side-limit ≤ 1000000000
-limit-le n at true = omega arith
-limit-le n at false = omega arith
+limit-le : (b : Bool) → cond b coefficient-limit right-side-limit < 2147483648
+limit-le true = omega arith
+limit-le false = omega arith
 
-near-fits : (z : ℤ) → natAbs z ≤ 1000000000 → SFits w32 z
+near-fits : (z : ℤ) → natAbs z < 2147483648 → SFits w32 z
 near-fits (pos n) h = record { sfits = omega arith }
 near-fits (negsuc n) h = record { sfits = omega arith }
 
 pub block-fits : (n w start : ℕ) (zs : List ℤ) → judged (block-checks n w start zs) ≡ Ok tt → All (SFits w32) zs
 block-fits n w start zs h =
-    all-from-getD (SFits w32) zs (pos 0) (λ k l. near-fits (getD zs k (pos 0)) (omega (arith, leb-true _ _ (block-holds n w start zs h k l), limit-le n (k % w) (ltb (k % w) n))))
+    all-from-getD (SFits w32) zs (pos 0) (λ k l. near-fits (getD zs k (pos 0)) (omega (arith, leb-true _ _ (block-holds n w start zs h k l), limit-le (ltb (k % w) n))))
 
 -- the fields of a header read as what they were written from
 fields-back : (m : Mark) (a b c d e f : ℕ) (rest : List ℕ) → All (λ x. x < 65536) (a ∷ b ∷ c ∷ d ∷ e ∷ f ∷ []) → let bs = (letters m ++ joined field-bytes (a ∷ b ∷ c ∷ d ∷ e ∷ f ∷ [])) ++ rest in (field-at bs 4 ≡ a) × (field-at bs 6 ≡ b) × (field-at bs 8 ≡ c) × (field-at bs 10 ≡ d) × (field-at bs 12 ≡ e) × (field-at bs 14 ≡ f)

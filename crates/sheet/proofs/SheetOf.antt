@@ -18,16 +18,16 @@ use Rattle.sheet.specs.declared.format.Mark.{Mark}
 use Rattle.sheet.specs.declared.format.Mark.the-variants.{Frac}
 use Rattle.sheet.specs.declared.refusal.Refusal.{Refusal}
 use Rattle.sheet.specs.Checks.{Check, judged, after}
-use Rattle.sheet.specs.Format.{line-numbers, form-numbers}
+use Rattle.sheet.specs.Format.{most-unknowns, most-lines, most-forms, most-line-numbers, most-form-numbers, line-numbers, form-numbers}
 use Rattle.sheet.specs.Reading.{Content, HeaderOf, BlockRead, header-checks, counts-of, count-checks, line-checks, form-checks, number-checks, lines-in, forms-in, content-of, sheet-of}
 use Rattle.sheet.proofs.Judged.{judged-append, holds-from-judged}
 
 -- counts that pass are small
 pub record Small (c : Counts) : Type 0 where
   pub some : 1 ≤ c .unknowns
-  pub unknowns : c .unknowns ≤ 12
-  pub lines : c .lines ≤ 40
-  pub forms : c .forms ≤ 40
+  pub unknowns : c .unknowns ≤ most-unknowns
+  pub lines : c .lines ≤ most-lines
+  pub forms : c .forms ≤ most-forms
 
 pub small : (c : Counts) → judged (count-checks c) ≡ Ok tt → Small c
 small c h =
@@ -35,11 +35,11 @@ small c h =
     let n = and-parts _ _ (a .0) in
     record { some = leb-true _ _ (n .0); unknowns = leb-true _ _ (n .1); lines = leb-true _ _ (a .1 .0); forms = leb-true _ _ (a .1 .1 .0) }
 
-pub line-numbers-le : (c : Counts) → judged (count-checks c) ≡ Ok tt → line-numbers c ≤ 520
-line-numbers-le c h = let s = small c h in mul-le (c .lines) (c .unknowns + 1) 40 13 (s .lines) (omega arith)
+pub line-numbers-le : (c : Counts) → judged (count-checks c) ≡ Ok tt → line-numbers c ≤ most-line-numbers
+line-numbers-le c h = let s = small c h in mul-le (c .lines) (c .unknowns + 1) most-lines (most-unknowns + 1) (s .lines) (omega arith)
 
-pub form-numbers-le : (c : Counts) → judged (count-checks c) ≡ Ok tt → form-numbers c ≤ 480
-form-numbers-le c h = let s = small c h in mul-le (c .forms) (c .unknowns) 40 12 (s .forms) (s .unknowns)
+pub form-numbers-le : (c : Counts) → judged (count-checks c) ≡ Ok tt → form-numbers c ≤ most-form-numbers
+form-numbers-le c h = let s = small c h in mul-le (c .forms) (c .unknowns) most-forms most-unknowns (s .forms) (s .unknowns)
 
 -- the lines pass, so the forms decide
 pub lines-pass : (c : Counts) (ls fs : List ℤ) → judged (line-checks c ls) ≡ Ok tt → judged (number-checks c ls fs) ≡ judged (form-checks c fs)

@@ -14,7 +14,7 @@ use Rattle.sheet.specs.declared.format.Mark.{Mark}
 use Rattle.sheet.specs.declared.format.Mark.the-variants.{Frac, Rest}
 use Rattle.sheet.specs.declared.refusal.Refusal.{Refusal}
 use Rattle.sheet.specs.Checks.{judged, after}
-use Rattle.sheet.specs.Format.{letters, header-fields, line-numbers, form-numbers, forms-start, total-length}
+use Rattle.sheet.specs.Format.{most-length, letters, header-fields, line-numbers, form-numbers, forms-start, total-length}
 use Rattle.sheet.specs.Numbers.{field-bytes, number-bytes}
 use Rattle.sheet.specs.Reading.{Content, count-checks, number-checks}
 use Rattle.sheet.specs.Writing.{over, header-bytes, sheet-bytes, length-checks, write-checks}
@@ -42,7 +42,7 @@ numbers-left c ls fs room h k =
     ∙ judged-append (length-checks c (length ls) (length fs) room) (number-checks c ls fs)
     ∙ ap (λ r. after r (λ _. judged (number-checks c ls fs))) k
 
-pub total-le : (c : Counts) → judged (count-checks c) ≡ Ok tt → total-length c ≤ 4016
+pub total-le : (c : Counts) → judged (count-checks c) ≡ Ok tt → total-length c ≤ most-length
 total-le c h = omega (arith, line-numbers-le c h, form-numbers-le c h)
 
 length-letters : (m : Mark) → length (letters m) ≡ 4

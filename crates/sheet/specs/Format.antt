@@ -25,6 +25,10 @@ letters Rest = codes "REST"
 abbrev pub mark-of : List ℕ → Option Mark
 mark-of bytes = cond (sameBytes bytes (letters Frac)) (Some Frac) (cond (sameBytes bytes (letters Rest)) (Some Rest) None)
 
+-- the header ends, and the lines begin, at this byte
+abbrev pub lines-start : ℕ
+lines-start = 16
+
 -- unknowns are 1 to 12, lines and forms at most 40 each
 abbrev pub most-unknowns : ℕ
 most-unknowns = 12
@@ -34,6 +38,19 @@ most-lines = 40
 
 abbrev pub most-forms : ℕ
 most-forms = 40
+
+-- what the largest sheet has
+abbrev pub most-line-numbers : ℕ
+most-line-numbers = most-lines * (most-unknowns + 1)
+
+abbrev pub most-form-numbers : ℕ
+most-form-numbers = most-forms * most-unknowns
+
+abbrev pub most-forms-start : ℕ
+most-forms-start = lines-start + 4 * most-line-numbers
+
+abbrev pub most-length : ℕ
+most-length = most-forms-start + 4 * most-form-numbers
 
 -- a coefficient lies within a million of zero, a right side within a thousand million
 abbrev pub coefficient-limit : ℕ
@@ -60,9 +77,6 @@ forms-start-field = 12
 
 abbrev pub total-field : ℕ
 total-field = 14
-
-abbrev pub lines-start : ℕ
-lines-start = 16
 
 abbrev pub line-numbers : Counts → ℕ
 line-numbers c = c .lines * (c .unknowns + 1)

@@ -5,16 +5,16 @@ ghost use mathlib.Core.Bool.{true};
 ghost use Rattle.std.specs.Results.{isOk};
 ghost use Rattle.std.specs.shelf.Text.{sameBytes};
 ghost use Rattle.sheet.specs.Checks.{judged};
-ghost use Rattle.sheet.specs.Format.{letters, mark-of, line-numbers, form-numbers, forms-start, total-length};
+ghost use Rattle.sheet.specs.Format.{letters, mark-of, most-line-numbers, most-form-numbers, most-forms-start, most-length, line-numbers, form-numbers, forms-start, total-length};
 ghost use Rattle.sheet.specs.Reading.{count-checks};
 use crate::refusal::Refusal;
 
-/// The letters of the two marks.
+// The letters of the two marks.
 pub const FRAC: &[u8; 4] = b"FRAC";
 
 pub const REST: &[u8; 4] = b"REST";
 
-/// The most that a sheet may have of each.
+// The most that a sheet may have of each.
 pub const MOST_UNKNOWNS: usize = 12;
 
 pub const MOST_LINES: usize = 40;
@@ -25,12 +25,12 @@ pub const MOST_LINE_NUMBERS: usize = MOST_LINES * (MOST_UNKNOWNS + 1);
 
 pub const MOST_FORM_NUMBERS: usize = MOST_FORMS * MOST_UNKNOWNS;
 
-/// How far from zero a number may lie.
+// How far from zero a number may lie.
 pub const COEFFICIENT_LIMIT: u32 = 1_000_000;
 
 pub const RIGHT_SIDE_LIMIT: u32 = 1_000_000_000;
 
-/// The bytes at which the fields of the header stand.
+// The bytes at which the fields of the header stand.
 pub const UNKNOWNS_FIELD: usize = 4;
 
 pub const LINES_FIELD: usize = 6;
@@ -43,7 +43,7 @@ pub const FORMS_START_FIELD: usize = 12;
 
 pub const TOTAL_FIELD: usize = 14;
 
-/// The byte at which the first line begins, just past the header.
+// The byte at which the first line begins, just past the header.
 pub const LINES_START: usize = 16;
 
 /// The kind of number that a sheet is to be counted in.
@@ -116,7 +116,7 @@ impl Counts {
     pub(crate) fn line_numbers(self) -> usize
         requires { ⌜ isOk (judged (count-checks self)) ≡ true ⌝ }
         ensures value { λ r. ⌜ r ≡ line-numbers self ⌝ }
-        ensures bound { λ r. ⌜ r ≤ 520 ⌝ }
+        ensures bound { λ r. ⌜ r ≤ most-line-numbers ⌝ }
     {
         self.lines * (self.unknowns + 1)
     }
@@ -125,7 +125,7 @@ impl Counts {
     pub(crate) fn form_numbers(self) -> usize
         requires { ⌜ isOk (judged (count-checks self)) ≡ true ⌝ }
         ensures value { λ r. ⌜ r ≡ form-numbers self ⌝ }
-        ensures bound { λ r. ⌜ r ≤ 480 ⌝ }
+        ensures bound { λ r. ⌜ r ≤ most-form-numbers ⌝ }
     {
         self.forms * self.unknowns
     }
@@ -134,7 +134,7 @@ impl Counts {
     pub(crate) fn forms_start(self) -> usize
         requires { ⌜ isOk (judged (count-checks self)) ≡ true ⌝ }
         ensures value { λ r. ⌜ r ≡ forms-start self ⌝ }
-        ensures bound { λ r. ⌜ r ≤ 2096 ⌝ }
+        ensures bound { λ r. ⌜ r ≤ most-forms-start ⌝ }
     {
         LINES_START + 4 * self.line_numbers()
     }
@@ -143,7 +143,7 @@ impl Counts {
     pub(crate) fn total_length(self) -> usize
         requires { ⌜ isOk (judged (count-checks self)) ≡ true ⌝ }
         ensures value { λ r. ⌜ r ≡ total-length self ⌝ }
-        ensures bound { λ r. ⌜ r ≤ 4016 ⌝ }
+        ensures bound { λ r. ⌜ r ≤ most-length ⌝ }
     {
         self.forms_start() + 4 * self.form_numbers()
     }

@@ -6,7 +6,7 @@ ghost use Rattle.std.specs.declared.result.Result.the-variants.{Ok, Err};
 ghost use Rattle.std.specs.Results.{Cases};
 ghost use Rattle.std.specs.Vec.{made};
 ghost use Rattle.sheet.specs.Checks.{judged};
-ghost use Rattle.sheet.specs.Format.{line-numbers, form-numbers, total-length};
+ghost use Rattle.sheet.specs.Format.{lines-start, line-numbers, form-numbers, total-length};
 ghost use Rattle.sheet.specs.Reading.{sheet-of, counts-of, lines-in, forms-in, count-checks, layout-checks, header-checks, line-checks, form-checks, HeaderOf, BlockRead};
 ghost use Rattle.sheet.specs.Typed.{says, content-read};
 ghost use Rattle.sheet.specs.Writing.{WritesAs};
@@ -29,7 +29,7 @@ use crate::typed::Sheet;
 
 /// The counts that a header gives.
 fn read_counts(bytes: &[u8]) -> Counts
-    requires { ⌜ 16 ≤ length (now bytes) ⌝ }
+    requires { ⌜ lines-start ≤ length (now bytes) ⌝ }
     ensures { λ r. ⌜ r ≡ counts-of (now (bytes .entry)) ⌝ }
 {
     Counts {
@@ -41,7 +41,7 @@ fn read_counts(bytes: &[u8]) -> Counts
 
 /// Whether the offsets and the total are what the counts make them.
 fn check_layout(bytes: &[u8], counts: Counts) -> Result<(), Refusal>
-    requires header { ⌜ 16 ≤ length (now bytes) ⌝ }
+    requires header { ⌜ lines-start ≤ length (now bytes) ⌝ }
     requires counted { ⌜ judged (count-checks counts) ≡ Ok tt ⌝ }
     ensures { λ r. ⌜ r ≡ judged (layout-checks (now (bytes .entry)) counts) ⌝ }
 {

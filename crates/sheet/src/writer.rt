@@ -7,6 +7,7 @@ ghost use Rattle.std.specs.Joined.{joined};
 ghost use Rattle.std.specs.Vec.{made};
 ghost use Rattle.std.specs.declared.result.Result.the-variants.{Ok};
 ghost use Rattle.sheet.specs.Checks.{judged};
+ghost use Rattle.sheet.specs.Format.{lines-start, most-length};
 ghost use Rattle.sheet.specs.Numbers.{field-bytes, number-bytes, block-checks};
 ghost use Rattle.sheet.specs.Reading.{count-checks, sheet-of};
 ghost use Rattle.sheet.specs.Writing.{over, content, header-bytes, length-checks, write-checks, written, memory-after};
@@ -42,7 +43,7 @@ fn put_numbers(memory: &mut [u8], at: usize, numbers: &[i32])
 /// Writes the header at the front of `memory`.
 fn put_header(memory: &mut [u8], mark: Mark, counts: Counts)
     requires counted { ⌜ judged (count-checks counts) ≡ Ok tt ⌝ }
-    requires room { ⌜ 16 ≤ length (now memory) ⌝ }
+    requires room { ⌜ lines-start ≤ length (now memory) ⌝ }
     ensures { λ _. ⌜ now (memory .exit) ≡ over 0 (header-bytes mark counts) (now (memory .entry)) ⌝ }
 {
     memory[0..UNKNOWNS_FIELD].copy_from_slice(mark.letters());
@@ -65,7 +66,7 @@ fn check_numbers(
     unknowns: usize,
 ) -> Result<(), Refusal>
     requires some { ⌜ 1 ≤ width ⌝ }
-    requires few { ⌜ start + 4 * length (now numbers) ≤ 4016 ⌝ }
+    requires few { ⌜ start + 4 * length (now numbers) ≤ most-length ⌝ }
     ensures { λ r. ⌜ r ≡ judged (block-checks unknowns width start (now (numbers .entry))) ⌝ }
 {
     for k in 0..numbers.len() {

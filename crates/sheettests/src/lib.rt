@@ -23,6 +23,7 @@ mod tests {
         \x01\0\0\0\0\0\0\0\x01\0\0\0\xfe\xff\xff\xff";
 
     const LINES: [i32; 12] = [2, -1, 3, 4, -2, 6, 4, -2, 7, 1, 1, 1];
+
     const FORMS: [i32; 4] = [1, 0, 1, -2];
 
     fn counts(unknowns: usize, lines: usize, forms: usize) -> Counts {
@@ -36,7 +37,10 @@ mod tests {
     // Writes into 64 bytes, and passes where that is refused as said and the memory is untouched.
     fn refused(counts: Counts, lines: &[i32], forms: &[i32], why: Refusal) -> Result<(), Fail> {
         let mut memory = [FILL; 64];
-        check_eq(write(Mark::Rest, counts, lines, forms, &mut memory), Err(why))?;
+        check_eq(
+            write(Mark::Rest, counts, lines, forms, &mut memory),
+            Err(why),
+        )?;
         check(memory == [FILL; 64])
     }
 
@@ -93,20 +97,40 @@ mod tests {
             position: 1,
             byte: 28,
         };
-        refused(counts(1, 1, 2), &[0, 1_000_000_000], &[1_000_000, -1_000_001], form)
+        refused(
+            counts(1, 1, 2),
+            &[0, 1_000_000_000],
+            &[1_000_000, -1_000_001],
+            form,
+        )
     }
 
     #[test]
     fn takes_memory_that_is_just_enough() -> Result<(), Fail> {
         let mut memory = [FILL; 64];
-        check_eq(write(Mark::Rest, counts(12, 0, 1), &[], &[0; 12], &mut memory), Ok(64))?;
-        check_eq(write(Mark::Rest, counts(12, 0, 0), &[], &[], &mut memory), Ok(16))
+        let form = counts(12, 0, 1);
+        check_eq(
+            write(Mark::Rest, form, &[], &[0; 12], &mut memory[0..63]),
+            Err(Refusal::Length),
+        )?;
+        check(memory == [FILL; 64])?;
+        check_eq(write(Mark::Rest, form, &[], &[0; 12], &mut memory), Ok(64))?;
+        check_eq(
+            write(Mark::Rest, counts(12, 0, 0), &[], &[], &mut memory),
+            Ok(16),
+        )
     }
 
     #[test]
     fn writes_the_widest() -> Result<(), Fail> {
         let mut memory = [FILL; 4017];
-        let length = write(Mark::Rest, counts(12, 40, 40), &[-7; 520], &[9; 480], &mut memory)?;
+        let length = write(
+            Mark::Rest,
+            counts(12, 40, 40),
+            &[-7; 520],
+            &[9; 480],
+            &mut memory,
+        )?;
         check(length == 4016)?;
         check(memory[4016] == FILL)?;
         let sheet = read(&memory[0..4016])?;
