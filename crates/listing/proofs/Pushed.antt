@@ -1,7 +1,7 @@
 -- Pieces of text that are added one after another. Assumes nothing.
-use mathlib.Core.Bool.{cond, true}
-use mathlib.Core.List.{List, [], _∷_, _++_, map, append-assoc, append-nil}
-use mathlib.Core.Path.{_≡_, refl, sym, ap, _∙_}
+use mathlib.Core.Bool.{cond}
+use mathlib.Core.List.{List, [], _∷_, _++_, append-assoc}
+use mathlib.Core.Path.{_≡_, sym, ap, _∙_}
 use Prim.Native.Nat.{ℕ, _+_, _-_, _<_}
 use native.Mathlib.Omega.{arith}
 use lib.Chars.{codes}
@@ -13,8 +13,7 @@ use Rattle.std.proofs.shelf.Lists.{map-id, joined-more}
 use Rattle.std.proofs.shelf.Tests.{cond-true, lt-ltb}
 use Rattle.std.specs.Iters.{counting}
 use Rattle.std.specs.Joined.{joined}
-use Rattle.std.specs.Written.{decimal, signed}
-use Rattle.std.specs.declared.option.Option.{Option}
+use Rattle.std.specs.Written.{signed}
 use Rattle.std.specs.declared.option.Option.the-variants.{Some, None}
 use Rattle.listing.specs.Listing.{sum-text}
 

@@ -1,11 +1,10 @@
 -- Terms and sums of them, as they are written. Assumes nothing.
 use mathlib.Core.Bool.{Bool, true, false, cond}
-use mathlib.Core.List.{List, [], _∷_, _++_, append-assoc, append-nil}
-use mathlib.Core.Path.{_≡_, refl, sym, ap, _∙_}
+use mathlib.Core.List.{List, [], _∷_, _++_, append-assoc}
+use mathlib.Core.Path.{_≡_, sym, ap, _∙_}
 use Prim.Native.Nat.{ℕ, _+_, _<_, _≤_}
 use native.Mathlib.Omega.{arith}
 use lib.Chars.{codes}
-use lib.Dec.{eqb}
 use lib.IntN.{ℤ, pos, negsuc, natAbs}
 use lib.ListN.{length, getD, drop}
 use Rattle.std.proofs.shelf.Lists.{drop-more, drop-all}
@@ -14,7 +13,7 @@ use mir.Val.{SFits, ofZ}
 use Rattle.std.proofs.shelf.Tests.{cond-true, cond-false, eq-eqb, ne-eqb}
 use Rattle.std.specs.Joined.{joined}
 use Rattle.std.specs.Written.{decimal}
-use Rattle.listing.specs.Listing.{Term, terms, term-text, first-sign, next-sign, next-text, terms-text, sum-text}
+use Rattle.listing.specs.Listing.{Term, terms, term-text, first-sign, next-sign, next-text, terms-text}
 
 pub term-of-one : (k : ℕ) (c : ℤ) → natAbs c ≡ 1 → codes "r" ++ decimal k ≡ term-text (k, c)
 term-of-one k c h = sym (ap (λ l. l ++ (codes "r" ++ decimal k)) (cond-true _ [] (decimal (natAbs c) ++ codes " ") (eq-eqb (natAbs c) 1 h)))

@@ -4,40 +4,39 @@ use mathlib.Core.List.{List, [], _∷_, _++_, map, append-assoc, append-nil}
 use mathlib.Core.Path.{_≡_, refl, sym, ap, subst, _∙_}
 use Prim.Native.Nat.{ℕ, zero, suc, _+_, _*_, _%_, _<_, _≤_}
 use native.Mathlib.Omega.{arith}
-use lib.Dec.{leb, ltb}
+use lib.Dec.{ltb}
 use lib.IntN.{ℤ, pos, negsuc, natAbs}
-use lib.ListN.{length, getD, take, drop, length-append, length-drop}
+use lib.ListN.{length, getD, take, drop, length-append}
 use lib.Seq.{take-add}
 use native.Mathlib.Nat.{mul-suc}
 use mir.Syntax.{w32}
 use mir.Val.{SFits}
 use Rattle.std.proofs.shelf.Counted.{fill-by-all, map-counting-more}
-use Rattle.std.proofs.shelf.Elements.{all-append, all-getD, all-from-getD}
+use Rattle.std.proofs.shelf.Elements.{all-append, all-from-getD}
 use Rattle.std.proofs.shelf.Equals.{sameBytes-decides}
-use Rattle.std.proofs.shelf.Lists.{take-all, take-at, drop-drop, drop-more}
-use Rattle.std.proofs.shelf.Tests.{leb-true, le-leb, eq-eqb, and-from, and-parts, eqb-true, cond-both}
+use Rattle.std.proofs.shelf.Lists.{take-all, drop-drop}
+use Rattle.std.proofs.shelf.Tests.{leb-true, le-leb, eq-eqb, and-from, and-parts, eqb-true}
 use Rattle.std.specs.Iters.{counting}
 use Rattle.std.specs.Joined.{joined}
 use Rattle.std.specs.Options.{isSome}
 use Rattle.std.specs.shelf.Lists.{All}
 use Rattle.std.specs.shelf.Text.{sameBytes}
-use Rattle.std.specs.declared.option.Option.{Option}
 use Rattle.std.specs.declared.option.Option.the-variants.{Some, None}
-use Rattle.std.specs.declared.result.Result.the-variants.{Ok, Err}
+use Rattle.std.specs.declared.result.Result.the-variants.{Ok}
 use Rattle.sheet.specs.declared.format.Counts.{Counts}
 use Rattle.sheet.specs.declared.format.Mark.{Mark}
 use Rattle.sheet.specs.declared.format.Mark.the-variants.{Frac, Rest}
 use Rattle.sheet.specs.Checks.{judged, after, if-passed}
 use Rattle.sheet.specs.Format.{letters, mark-of, coefficient-limit, right-side-limit, header-fields, line-numbers, form-numbers, forms-start, total-length}
-use Rattle.sheet.specs.Numbers.{field-at, number-at, numbers, field-bytes, number-bytes, in-range, block-checks}
+use Rattle.sheet.specs.Numbers.{field-at, number-at, numbers, field-bytes, number-bytes, block-checks}
 use Rattle.sheet.specs.Reading.{Content, HeaderOf, BlockRead, counts-of, header-checks, count-checks, layout-checks, line-checks, form-checks, number-checks, lines-in, forms-in, sheet-of}
 use Rattle.sheet.specs.Writing.{over, header-bytes, sheet-bytes, length-checks, write-checks, written, memory-after, WritesAs}
 use Rattle.sheet.proofs.Blocks.{block-holds, length-numbers}
 use Rattle.sheet.proofs.Judged.{Holds, holds-from-judged, judged-from-holds, judged-split}
 use Rattle.sheet.proofs.Over.{joined-append, take-over}
-use Rattle.sheet.proofs.SheetOf.{Small, small, lines-pass, sheet-passes}
+use Rattle.sheet.proofs.SheetOf.{small, lines-pass, sheet-passes}
 use Rattle.sheet.proofs.Words.{field-back, number-at-append, written-at, field-bytes-at, number-bytes-at}
-use Rattle.sheet.proofs.Written.{Long, long, numbers-left, put-all, total-le, length-header, length-numbers-bytes, length-sheet}
+use Rattle.sheet.proofs.Written.{long, numbers-left, put-all, total-le, length-header, length-numbers-bytes, length-sheet}
 
 -- a number in range fits 32 bits
 limit-le : (b : Bool) → cond b coefficient-limit right-side-limit < 2147483648

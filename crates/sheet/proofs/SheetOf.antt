@@ -1,25 +1,23 @@
 -- What the steps of reading a sheet show of `sheet-of`. Assumes nothing.
-use mathlib.Core.Bool.{Bool, true, false, _&&_}
-use mathlib.Core.List.{List, [], _∷_}
-use mathlib.Core.Path.{_≡_, refl, sym, ap, subst, _∙_}
-use Prim.Native.Nat.{ℕ, _+_, _*_, _≤_}
+use mathlib.Core.Bool.{true}
+use mathlib.Core.List.{List}
+use mathlib.Core.Path.{_≡_, sym, ap, _∙_}
+use Prim.Native.Nat.{ℕ, _+_, _≤_}
 use native.Mathlib.Omega.{arith}
-use lib.Dec.{leb}
 use lib.IntN.{ℤ}
-use lib.ListN.{length, take}
+use lib.ListN.{take}
 use Rattle.std.proofs.shelf.Bits.{mul-le}
 use Rattle.std.proofs.shelf.Tests.{leb-true, and-parts}
 use Rattle.std.specs.Options.{valueOr}
 use Rattle.std.specs.Results.{isOk}
-use Rattle.std.specs.declared.result.Result.{Result}
 use Rattle.std.specs.declared.result.Result.the-variants.{Ok, Err}
 use Rattle.sheet.specs.declared.format.Counts.{Counts}
 use Rattle.sheet.specs.declared.format.Mark.{Mark}
 use Rattle.sheet.specs.declared.format.Mark.the-variants.{Frac}
 use Rattle.sheet.specs.declared.refusal.Refusal.{Refusal}
-use Rattle.sheet.specs.Checks.{Check, judged, after}
+use Rattle.sheet.specs.Checks.{judged, after}
 use Rattle.sheet.specs.Format.{most-unknowns, most-lines, most-forms, most-line-numbers, most-form-numbers, line-numbers, form-numbers}
-use Rattle.sheet.specs.Reading.{Content, HeaderOf, BlockRead, header-checks, counts-of, count-checks, line-checks, form-checks, number-checks, lines-in, forms-in, content-of, sheet-of}
+use Rattle.sheet.specs.Reading.{HeaderOf, BlockRead, counts-of, count-checks, line-checks, form-checks, number-checks, lines-in, forms-in, content-of, sheet-of}
 use Rattle.sheet.proofs.Judged.{judged-append, holds-from-judged}
 
 -- counts that pass are small

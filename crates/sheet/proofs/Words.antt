@@ -1,7 +1,7 @@
 -- Numbers to bytes and back. Assumes nothing.
 use mathlib.Core.List.{List, [], _∷_, _++_}
-use mathlib.Core.Path.{_≡_, refl, sym, ap, _∙_}
-use Prim.Native.Nat.{ℕ, zero, suc, _+_, _*_, _/_, _%_, _^_, _<_, _≤_}
+use mathlib.Core.Path.{_≡_, sym, ap, _∙_}
+use Prim.Native.Nat.{ℕ, zero, suc, _+_, _*_, _/_, _%_, _<_, _≤_}
 use native.Mathlib.Nat.{add-assoc}
 use native.Mathlib.Omega.{arith}
 use lib.IntN.{ℤ, pos, negsuc}
@@ -13,7 +13,7 @@ use Rattle.std.proofs.shelf.Bits.{shr-shr, div-add-mod'}
 use Rattle.std.proofs.shelf.Signed.{toZ-ofZ, ofZ-toZ}
 use Rattle.std.specs.Joined.{joined}
 use Rattle.std.specs.shelf.Lists.{All}
-use Rattle.sheet.specs.Numbers.{field-at, number-at, numbers, field-bytes, number-bytes}
+use Rattle.sheet.specs.Numbers.{field-at, number-at, field-bytes, number-bytes}
 
 pub field-back : (x : ℕ) → x < 65536 → x % 256 + x / 256 % 256 * 256 ≡ x
 field-back x h = omega arith

@@ -1,7 +1,6 @@
 // Writes a sheet into lent memory.
-ghost use mathlib.Core.List.{List};
 ghost use mathlib.Core.Path.{_≡_};
-ghost use Prim.Native.Nat.{ℕ, _+_, _*_, _≤_};
+ghost use Prim.Native.Nat.{_+_, _*_, _≤_};
 ghost use lib.ListN.{length, take};
 ghost use Rattle.std.specs.Joined.{joined};
 ghost use Rattle.std.specs.Vec.{made};

@@ -1,4 +1,4 @@
-use mathlib.Core.Path.{_≡_, refl, sym, subst}
+use mathlib.Core.Path.{refl, sym, subst}
 use lib.Utf8.{encode}
 use Rattle.std.specs.Text.{Utf8}
 use Rattle.sheet.specs.declared.format.Mark.{Mark}

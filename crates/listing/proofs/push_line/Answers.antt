@@ -1,5 +1,5 @@
 use borrow.Author.Needs.{needs}
-use mathlib.Core.Path.{_≡_, sym, ap, _∙_}
+use mathlib.Core.Path.{ap, _∙_}
 use mathlib.Core.List.{_++_}
 use Prim.Native.Nat.{_+_, _-_}
 use lib.Chars.{codes}
@@ -10,7 +10,7 @@ use mir.Val.{SFits, toZ, ofZ}
 use Rattle.std.proofs.shelf.Results.{made-weaker}
 use Rattle.std.proofs.shelf.Signed.{toZ-ofZ}
 use Rattle.std.specs.Of.String.{string-bytes}
-use Rattle.std.specs.Written.{decimal, signed}
+use Rattle.std.specs.Written.{decimal}
 use Rattle.sheet.specs.declared.format.Counts.{Counts}
 use Rattle.listing.specs.Listing.{sum-text}
 use Rattle.listing.proofs.Pushed.{three, found-row, equation}

@@ -1,12 +1,12 @@
-use mathlib.Core.Path.{_≡_, sym, ap, _∙_}
+use mathlib.Core.Path.{sym, ap, _∙_}
 use native.Mathlib.Omega.{arith}
 use lib.ListN.{length}
 use Rattle.std.proofs.shelf.Results.{err-from-errBy}
-use Rattle.std.specs.declared.result.Result.the-variants.{Ok, Err}
+use Rattle.std.specs.declared.result.Result.the-variants.{Err}
 use Rattle.sheet.specs.Checks.{judged}
 use Rattle.sheet.specs.Numbers.{block-checks}
 use Rattle.sheet.proofs.SheetOf.{small, lines-stop, lines-pass}
-use Rattle.sheet.proofs.Written.{Long, long, numbers-left, total-le}
+use Rattle.sheet.proofs.Written.{long, numbers-left, total-le}
 use Rattle.sheet.proofs.writer.check.Needs as need
 
 pub check-numbers-requires : need.check-numbers-requires
