@@ -29,14 +29,15 @@ use Rattle.sheet.specs.declared.format.Mark.the-variants.{Frac, Rest}
 use Rattle.sheet.specs.Checks.{judged, after, if-passed}
 use Rattle.sheet.specs.Format.{letters, mark-of, coefficient-limit, right-side-limit, header-fields, line-numbers, form-numbers, forms-start, total-length}
 use Rattle.sheet.specs.Numbers.{field-at, number-at, numbers, field-bytes, number-bytes, block-checks}
-use Rattle.sheet.specs.Reading.{Content, HeaderOf, BlockRead, counts-of, header-checks, count-checks, layout-checks, line-checks, form-checks, number-checks, lines-in, forms-in, sheet-of}
+use Rattle.sheet.specs.Reading.{Content, counts-of, header-checks, count-checks, layout-checks, line-checks, form-checks, number-checks, lines-in, forms-in, sheet-of}
+use Rattle.sheet.specs.Steps.{HeaderOf, BlockRead}
 use Rattle.sheet.specs.Writing.{over, header-bytes, sheet-bytes, length-checks, write-checks, written, memory-after, WritesAs}
 use Rattle.sheet.proofs.Blocks.{block-holds, length-numbers}
 use Rattle.sheet.proofs.Judged.{Holds, holds-from-judged, judged-from-holds, judged-split}
 use Rattle.sheet.proofs.Over.{joined-append, take-over}
 use Rattle.sheet.proofs.SheetOf.{small, lines-pass, sheet-passes}
-use Rattle.sheet.proofs.Words.{field-back, number-at-append, written-at, field-bytes-at, number-bytes-at}
-use Rattle.sheet.proofs.Written.{long, numbers-left, put-all, total-le, length-header, length-numbers-bytes, length-sheet}
+use Rattle.sheet.proofs.Words.{field-back, field-at-append, number-at-append, written-at, field-bytes-at, number-bytes-at}
+use Rattle.sheet.proofs.Written.{long, numbers-left, put-all, total-le, length-letters, length-header, length-numbers-bytes, length-sheet}
 
 -- a number in range fits 32 bits
 limit-le : (b : Bool) → cond b coefficient-limit right-side-limit < 2147483648
@@ -53,8 +54,17 @@ block-fits n w start zs h =
 
 -- the fields of a header read as what they were written from
 fields-back : (m : Mark) (a b c d e f : ℕ) (rest : List ℕ) → All (λ x. x < 65536) (a ∷ b ∷ c ∷ d ∷ e ∷ f ∷ []) → let bs = (letters m ++ joined field-bytes (a ∷ b ∷ c ∷ d ∷ e ∷ f ∷ [])) ++ rest in (field-at bs 4 ≡ a) × (field-at bs 6 ≡ b) × (field-at bs 8 ≡ c) × (field-at bs 10 ≡ d) × (field-at bs 12 ≡ e) × (field-at bs 14 ≡ f)
-fields-back Frac a b c d e f rest h = (field-back a (h .0), field-back b (h .1 .0), field-back c (h .1 .1 .0), field-back d (h .1 .1 .1 .0), field-back e (h .1 .1 .1 .1 .0), field-back f (h .1 .1 .1 .1 .1 .0))
-fields-back Rest a b c d e f rest h = (field-back a (h .0), field-back b (h .1 .0), field-back c (h .1 .1 .0), field-back d (h .1 .1 .1 .0), field-back e (h .1 .1 .1 .1 .0), field-back f (h .1 .1 .1 .1 .1 .0))
+fields-back m a b c d e f rest h =
+    let fs = joined field-bytes (a ∷ b ∷ c ∷ d ∷ e ∷ f ∷ []) in
+    let past : (k : ℕ) → field-at ((letters m ++ fs) ++ rest) (4 + k) ≡ field-at (fs ++ rest) k =
+    λ k. ap (λ bs. field-at bs (4 + k)) (append-assoc (letters m) fs rest) ∙ ap (λ n. field-at (letters m ++ (fs ++ rest)) (n + k)) (sym (length-letters m)) ∙ field-at-append (letters m) (fs ++ rest) k in (
+      past 0 ∙ field-back a (h .0),
+      past 2 ∙ field-back b (h .1 .0),
+      past 4 ∙ field-back c (h .1 .1 .0),
+      past 6 ∙ field-back d (h .1 .1 .1 .0),
+      past 8 ∙ field-back e (h .1 .1 .1 .1 .0),
+      past 10 ∙ field-back f (h .1 .1 .1 .1 .1 .0),
+    )
 
 mark-back : (m : Mark) (bs rest : List ℕ) → mark-of (take 4 ((letters m ++ bs) ++ rest)) ≡ Some m
 mark-back Frac bs rest = refl

@@ -1,14 +1,16 @@
 -- Numbers to bytes and back. Assumes nothing.
-use mathlib.Core.List.{List, [], _∷_, _++_}
+use mathlib.Core.List.{List, [], _∷_, _++_, map}
 use mathlib.Core.Path.{_≡_, sym, ap, _∙_}
 use Prim.Native.Nat.{ℕ, zero, suc, _+_, _*_, _/_, _%_, _<_, _≤_}
-use native.Mathlib.Nat.{add-assoc}
+use native.Mathlib.Nat.{add-assoc, add-zero}
 use native.Mathlib.Omega.{arith}
 use lib.IntN.{ℤ, pos, negsuc}
 use lib.ListN.{length, getD, take, drop}
 use mir.Syntax.{w32}
 use mir.Val.{SFits, toZ, ofZ}
-use Rattle.std.proofs.shelf.Lists.{getD-append-add, drop-more}
+use Rattle.std.proofs.shelf.Lists.{getD-append-add, getD-take, getD-drop, length-take-le, length-drop}
+use Rattle.std.proofs.shelf.Counted.{fill-by-all}
+use Rattle.std.specs.Iters.{counting}
 use Rattle.std.proofs.shelf.Bits.{shr-shr, div-add-mod'}
 use Rattle.std.proofs.shelf.Signed.{toZ-ofZ, ofZ-toZ}
 use Rattle.std.specs.Joined.{joined}
@@ -38,6 +40,9 @@ module _ (p q : List ℕ) where
   later : (j i : ℕ) → getD (p ++ q) (length p + j + i) 0 ≡ getD q (j + i) 0
   later j i = ap (λ n. getD (p ++ q) n 0) (add-assoc (length p) j i) ∙ getD-append-add p q (j + i) 0
 
+  pub field-at-append : (j : ℕ) → field-at (p ++ q) (length p + j) ≡ field-at q j
+  field-at-append j = λ i. getD-append-add p q j 0 i + later j 1 i * 256
+
   pub number-at-append : (j : ℕ) → number-at (p ++ q) (length p + j) ≡ number-at q j
   number-at-append j = λ i. toZ w32 (getD-append-add p q j 0 i + later j 1 i * 256 + later j 2 i * 65536 + later j 3 i * 16777216)
 
@@ -61,21 +66,15 @@ written-at (z ∷ zs) rest h (suc k) l =
 
 -- bytes that are read as a number are what it is written as
 module _ (bytes : List ℕ) (small : (i : ℕ) → getD bytes i 0 < 256) where
-  two : (at : ℕ) → at + 2 ≤ length bytes → take 2 (drop at bytes) ≡ getD bytes at 0 ∷ getD bytes (at + 1) 0 ∷ []
-  two at l = ap (take 2) (drop-more bytes at 0 (omega arith) ∙ ap (λ r. getD bytes at 0 ∷ r) (drop-more bytes (at + 1) 0 (omega arith)))
+  -- w bytes from the byte `at` on, one by one
+  front : (w at : ℕ) → at + w ≤ length bytes → take w (drop at bytes) ≡ map (λ k. getD bytes (at + k) 0) (counting 0 w)
+  front w at l =
+      fill-by-all (λ k. getD bytes (at + k) 0) (take w (drop at bytes)) w 0 (length-take-le w (drop at bytes) (omega (arith, length-drop at bytes))) (λ k h. getD-take w (drop at bytes) k 0 h ∙ getD-drop at bytes k 0)
 
   pub field-bytes-at : (at : ℕ) → at + 2 ≤ length bytes → field-bytes (field-at bytes at) ≡ take 2 (drop at bytes)
   field-bytes-at at l =
       let e = field-parts (getD bytes at 0) (getD bytes (at + 1) 0) (small at) (small (at + 1)) in
-      (λ i. e .0 i ∷ e .1 i ∷ []) ∙ sym (two at l)
-
-  four : (at : ℕ) → at + 4 ≤ length bytes → take 4 (drop at bytes) ≡ getD bytes at 0 ∷ getD bytes (at + 1) 0 ∷ getD bytes (at + 2) 0 ∷ getD bytes (at + 3) 0 ∷ []
-  four at l =
-      let step : (k m : ℕ) → at + k + 1 ≡ at + m → at + k < length bytes → drop (at + k) bytes ≡ getD bytes (at + k) 0 ∷ drop (at + m) bytes = λ k m e h. drop-more bytes (at + k) 0 h ∙ ap (λ n. getD bytes (at + k) 0 ∷ drop n bytes) e in
-      ap (take 4) (drop-more bytes at 0 (omega arith)
-      ∙ ap (λ r. getD bytes at 0 ∷ r) (step 1 2 (omega arith) (omega arith)
-      ∙ ap (λ r. getD bytes (at + 1) 0 ∷ r) (step 2 3 (omega arith) (omega arith)
-      ∙ ap (λ r. getD bytes (at + 2) 0 ∷ r) (step 3 4 (omega arith) (omega arith)))))
+      (λ i. e .0 i ∷ e .1 i ∷ []) ∙ sym (front 2 at l ∙ (λ i. getD bytes (add-zero at i) 0 ∷ getD bytes (at + 1) 0 ∷ []))
 
   pub number-bytes-at : (at : ℕ) → at + 4 ≤ length bytes → number-bytes (number-at bytes at) ≡ take 4 (drop at bytes)
   number-bytes-at at l =
@@ -83,4 +82,4 @@ module _ (bytes : List ℕ) (small : (i : ℕ) → getD bytes i 0 < 256) where
       let fits : x < 4294967296 = omega (arith, small at, small (at + 1), small (at + 2), small (at + 3)) in
       let back : ofZ w32 (toZ w32 x) ≡ x = ofZ-toZ w32 x fits in
       let e = word-parts (getD bytes at 0) (getD bytes (at + 1) 0) (getD bytes (at + 2) 0) (getD bytes (at + 3) 0) (small at) (small (at + 1)) (small (at + 2)) (small (at + 3)) in
-      ap (λ n. n % 256 ∷ n / 256 % 256 ∷ n / 65536 % 256 ∷ n / 16777216 % 256 ∷ []) back ∙ (λ i. e .0 i ∷ e .1 i ∷ e .2 i ∷ e .3 i ∷ []) ∙ sym (four at l)
+      ap (λ n. n % 256 ∷ n / 256 % 256 ∷ n / 65536 % 256 ∷ n / 16777216 % 256 ∷ []) back ∙ (λ i. e .0 i ∷ e .1 i ∷ e .2 i ∷ e .3 i ∷ []) ∙ sym (front 4 at l ∙ (λ i. getD bytes (add-zero at i) 0 ∷ getD bytes (at + 1) 0 ∷ getD bytes (at + 2) 0 ∷ getD bytes (at + 3) 0 ∷ []))

@@ -43,7 +43,7 @@ numbers-left c ls fs room h k =
 pub total-le : (c : Counts) → judged (count-checks c) ≡ Ok tt → total-length c ≤ most-length
 total-le c h = omega (arith, line-numbers-le c h, form-numbers-le c h)
 
-length-letters : (m : Mark) → length (letters m) ≡ 4
+pub length-letters : (m : Mark) → length (letters m) ≡ 4
 length-letters Frac = refl
 length-letters Rest = refl
 

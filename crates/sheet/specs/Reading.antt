@@ -4,7 +4,6 @@
 --     sheet-of bs       the content of the sheet bs, or why bs is none
 use mathlib.Core.Bool.{_&&_, cond}
 use mathlib.Core.List.{List, [], _∷_, _++_}
-use mathlib.Core.Path.{_≡_}
 use Prim.Native.Nat.{ℕ, _+_, _*_}
 use lib.Dec.{leb, ltb, eqb}
 use lib.IntN.{ℤ}
@@ -13,7 +12,7 @@ use Rattle.std.specs.Options.{isSome, valueOr}
 use Rattle.std.specs.declared.option.Option.{Option}
 use Rattle.std.specs.declared.option.Option.the-variants.{Some, None}
 use Rattle.std.specs.declared.result.Result.{Result}
-use Rattle.std.specs.declared.result.Result.the-variants.{Ok, Err}
+use Rattle.std.specs.declared.result.Result.the-variants.{Ok}
 use Rattle.sheet.specs.declared.format.Counts.{Counts}
 use Rattle.sheet.specs.declared.format.Mark.{Mark}
 use Rattle.sheet.specs.declared.format.Mark.the-variants.{Frac}
@@ -63,14 +62,6 @@ header-checks bytes =
     ∷ (isSome (mark-of (take 4 bytes)), NoMark)
     ∷ (count-checks (counts-of bytes) ++ layout-checks bytes (counts-of bytes))
 
--- the header of bs passes, and gives the mark m and the counts c
-pub record HeaderOf (bytes : List ℕ) (m : Mark) (c : Counts) : Type 0 where
-  pub passes : judged (header-checks bytes) ≡ Ok tt
-  pub marked : mark-of (take 4 bytes) ≡ Some m
-  pub counted : counts-of bytes ≡ c
-  pub small : judged (count-checks c) ≡ Ok tt
-  pub long : total-length c ≡ length bytes
-
 -- every number of the lines, and then of the forms, in its range
 abbrev pub line-checks : Counts → List ℤ → List Check
 line-checks c lines = block-checks (c .unknowns) (c .unknowns + 1) lines-start lines
@@ -80,11 +71,6 @@ form-checks c forms = block-checks (c .unknowns) (c .unknowns) (forms-start c) f
 
 abbrev pub number-checks : Counts → List ℤ → List ℤ → List Check
 number-checks c lines forms = line-checks c lines ++ form-checks c forms
-
--- the numbers zs pass, and are the first `count` of what was read; or why they do not
-abbrev pub BlockRead : Result (List ℤ) Refusal → List Check → ℕ → List ℤ → Type 0
-BlockRead (Ok read) checks count zs = (judged checks ≡ Ok tt) × (take count read ≡ zs)
-BlockRead (Err e) checks count zs = judged checks ≡ Err e
 
 -- the numbers that stand where the counts put them
 abbrev pub lines-in : List ℕ → Counts → List ℤ
