@@ -1,4 +1,7 @@
 // The text of a sheet, so that a person can hold it against the client's paper.
+
+#![tactic(auto)]
+
 ghost use Rattle.std.specs.Prelude.{◌≡◌, ◌+◌, ◌<◌, ◌++◌, IfOk, if◌then◌else◌, string_bytes, OnOk};
 ghost use Rattle.sheet.specs.Format.{letters};
 ghost use Rattle.sheet.specs.Typed.{says};

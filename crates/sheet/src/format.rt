@@ -66,7 +66,7 @@ impl Mark {
     fn is(self, bytes: &[u8]) -> bool
         ensures { result ≡ bytes_eq bytes.now (letters self) }
     {
-        bytes == self.letters()
+        bytes == self.letters().as_slice()
     }
 
     /// The mark whose letters some bytes are, if any.

@@ -1,5 +1,7 @@
 // Sheets of equations between service centres: the binary format, its reader and its writer.
 
+#![tactic(auto)]
+
 pub mod format;
 mod numbers;
 pub mod reader;

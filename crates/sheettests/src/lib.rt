@@ -1,5 +1,7 @@
 // Tests of the sheet's writer, and of reading what it wrote.
 
+#![tactic(auto)]
+
 #[cfg(test)]
 mod tests {
     use sheet::format::{Counts, Mark};
