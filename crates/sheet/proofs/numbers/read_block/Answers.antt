@@ -10,17 +10,17 @@ use Rattle.sheet.proofs.numbers.read_block.Goals as goal
 inside : {a w b h : ℕ} → a < h → b < w → a * w + b < w * h
 inside {a} {w} {b} {h} p q = mul-add-lt a w b h p q
 
-pub overflow-mul-byte : goal.overflow-mul-byte
-overflow-mul-byte c = let h = inside c.rows-test.true c.loop-column-test.true in search rules
+pub overflow_mul-byte : goal.overflow_mul-byte
+overflow_mul-byte c = let h = inside c.rows-test.true c.loop-column-test.true in search rules
 
-pub overflow-add-byte : goal.overflow-add-byte
-overflow-add-byte c = let h = inside c.rows-test.true c.loop-column-test.true in search rules
+pub overflow_add-byte : goal.overflow_add-byte
+overflow_add-byte c = let h = inside c.rows-test.true c.loop-column-test.true in search rules
 
 pub number-x-requires : goal.number-x-requires
 number-x-requires c = let h = inside c.rows-test.true c.loop-column-test.true in search rules
 
-pub offset-bounds-into-place : goal.offset-bounds-into-place
-offset-bounds-into-place c = let h = inside c.rows-test.true c.loop-column-test.true in search rules
+pub offset_bounds-into-place : goal.offset_bounds-into-place
+offset_bounds-into-place c = let h = inside c.rows-test.true c.loop-column-test.true in search rules
 
 pub bounds-into-place : goal.bounds-into-place
 bounds-into-place c = let h = inside c.rows-test.true c.loop-column-test.true in search rules
@@ -29,7 +29,7 @@ pub loop-column-preserved : goal.loop-column-preserved
 loop-column-preserved c =
     let h = inside c.rows-test.true c.loop-column-test.true in
     let f : SFits w32 c.number-x.result = search rules in
-    let here = in_column c.args.block.unknowns c.args.block.width c.rows.row c.loop-column.column _ _ _ c.loop-column-test.true f c.number-x.ensures c.is-in-range.ensures ∙ c.if-not-is-in-range.false in (
+    let here = in_column c.args.block.unknowns c.args.block.width c.rows.row c.loop-column.column _ _ _ c.loop-column-test.true f c.number-x.ensures c.is_in_range.ensures ∙ c.if-not-is_in_range.false in (
       c.loop-column.invariant.0,
       (λ t l. below_more _ _ c.loop-column.invariant.1 here t (omega arith)),
       λ t l. copied_more _ _ _ _ _ (omega arith) (to_z-of_z w32 c.number-x.result f ∙ c.number-x.ensures) c.loop-column.invariant.2 t (omega arith),
@@ -42,11 +42,11 @@ returns-after-rows c =
     let fine = fine_all _ _ _ _ count (rw e at c.rows.invariant.1) in
     record { verdict = c.rows.invariant.0 ∙ sym fine; read = made_at _ c.rows.invariant.0 (copied_all _ _ _ count (c.rows.auto.into ∙ c.requires.room) (rw e at c.rows.invariant.2)) }
 
-pub returns-then-not-is-in-range : goal.returns-then-not-is-in-range
-returns-then-not-is-in-range c =
+pub returns-then-not-is_in_range : goal.returns-then-not-is_in_range
+returns-then-not-is_in_range c =
     let f : SFits w32 c.number-x.result = search rules in
     let h = inside c.rows-test.true c.loop-column-test.true in
-    let here = in_column c.args.block.unknowns c.args.block.width c.rows.row c.loop-column.column _ _ _ c.loop-column-test.true f c.number-x.ensures c.is-in-range.ensures ∙ c.if-not-is-in-range.true in
+    let here = in_column c.args.block.unknowns c.args.block.width c.rows.row c.loop-column.column _ _ _ c.loop-column-test.true f c.number-x.ensures c.is_in_range.ensures ∙ c.if-not-is_in_range.true in
     let at = c.rows.row * c.args.block.width + c.loop-column.column in
     record {
       verdict = sym (fine_stops c.args.block.unknowns c.args.block.width c.args.block.start c.args.bytes.now (c.args.block.rows * c.args.block.width) at (omega arith) c.loop-column.invariant.1 here

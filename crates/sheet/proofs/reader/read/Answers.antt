@@ -4,25 +4,25 @@ use Rattle.sheet.proofs.SheetOf.{stops_in_lines, stops_in_forms, ranged, reads}
 use Rattle.sheet.proofs.RoundTrip.{writes_again}
 use Rattle.sheet.proofs.reader.read.Goals as goal
 
-pub returns-in-err-lines : goal.returns-in-err-lines
-returns-in-err-lines c =
-    let p = err_from_is_err_and c.from-residual-in-err-lines.result c.from-residual-in-err-lines.ensures.1 in
-    record { value = rw (p.1, p.2) (sym (stops_in_lines c.in-ok-mark.ensures _ c.in-err-lines.ensures)); back = rw p.1 tt }
+pub returns-in_err-lines : goal.returns-in_err-lines
+returns-in_err-lines c =
+    let p = err_from_is_err_and c.from_residual-in_err-lines.result c.from_residual-in_err-lines.ensures.1 in
+    record { value = rw (p.1, p.2) (sym (stops_in_lines c.in_ok-mark.ensures _ c.in_err-lines.ensures)); back = rw p.1 tt }
 
-pub returns-in-err-forms : goal.returns-in-err-forms
-returns-in-err-forms c =
-    let p = err_from_is_err_and c.from-residual-in-err-forms.result c.from-residual-in-err-forms.ensures.1 in
-    record { value = rw (p.1, p.2) (sym (stops_in_forms c.in-ok-mark.ensures _ c.in-ok-lines.ensures.0 c.in-err-forms.ensures)); back = rw p.1 tt }
+pub returns-in_err-forms : goal.returns-in_err-forms
+returns-in_err-forms c =
+    let p = err_from_is_err_and c.from_residual-in_err-forms.result c.from_residual-in_err-forms.ensures.1 in
+    record { value = rw (p.1, p.2) (sym (stops_in_forms c.in_ok-mark.ensures _ c.in_ok-lines.ensures.0 c.in_err-forms.ensures)); back = rw p.1 tt }
 
-pub invariant-of-result : goal.invariant-of-result
-invariant-of-result c =
-    let header = c.in-ok-mark.ensures in
-    (ap is_ok header.small, (ranged header _ _ c.in-ok-lines.ensures c.in-ok-forms.ensures, tt))
+pub invariant_of-result : goal.invariant_of-result
+invariant_of-result c =
+    let header = c.in_ok-mark.ensures in
+    record { counted = ap is_ok header.small; ranged = ranged header _ _ c.in_ok-lines.ensures c.in_ok-forms.ensures }
 
 pub returns : goal.returns
 returns c =
-    let header = c.in-ok-mark.ensures in
+    let header = c.in_ok-mark.ensures in
     record {
-      value = reads header _ _ c.in-ok-lines.ensures c.in-ok-forms.ensures;
-      back = writes_again c.args.bytes.now (λ i. (c.type-inv.bytes i).fits) _ _ header _ _ c.in-ok-lines.ensures c.in-ok-forms.ensures;
+      value = reads header _ _ c.in_ok-lines.ensures c.in_ok-forms.ensures;
+      back = writes_again c.args.bytes.now (λ i. (c.type_inv.bytes i).fits) _ _ header _ _ c.in_ok-lines.ensures c.in_ok-forms.ensures;
     }

@@ -8,14 +8,14 @@ pub loop-k-preserved : goal.loop-k-preserved
 loop-k-preserved c =
     let x = get_or c.args.numbers.now c.loop-k.k (pos 0) in
     let f : SFits w32 x = search rules in
-    below_more _ _ c.loop-k.invariant (ap (in_range c.args.unknowns (c.loop-k.k % c.args.width)) (sym (to_z-of_z w32 x f)) ∙ sym c.is-in-range.ensures ∙ c.if-not-is-in-range.false)
+    below_more _ _ c.loop-k.invariant (ap (in_range c.args.unknowns (c.loop-k.k % c.args.width)) (sym (to_z-of_z w32 x f)) ∙ sym c.is_in_range.ensures ∙ c.if-not-is_in_range.false)
 
-pub returns-then-not-is-in-range : goal.returns-then-not-is-in-range
-returns-then-not-is-in-range c =
+pub returns-then-not-is_in_range : goal.returns-then-not-is_in_range
+returns-then-not-is_in_range c =
     let x = get_or c.args.numbers.now c.loop-k.k (pos 0) in
     let f : SFits w32 x = search rules in
     sym (block_stops c.args.unknowns c.args.width c.args.start c.args.numbers.now c.loop-k.k c.loop-k-test.true c.loop-k.invariant
-    (ap (in_range c.args.unknowns (c.loop-k.k % c.args.width)) (sym (to_z-of_z w32 x f)) ∙ sym c.is-in-range.ensures ∙ c.if-not-is-in-range.true))
+    (ap (in_range c.args.unknowns (c.loop-k.k % c.args.width)) (sym (to_z-of_z w32 x f)) ∙ sym c.is_in_range.ensures ∙ c.if-not-is_in_range.true))
 
 pub returns : goal.returns
 returns c = sym (block_passed c.args.unknowns c.args.width c.args.start c.args.numbers.now (λ t l. c.loop-k.invariant t (omega arith)))

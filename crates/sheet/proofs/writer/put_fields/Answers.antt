@@ -8,7 +8,7 @@ loop-k-init c = sym (over_none c.args.at c.args.memory.now)
 
 pub loop-k-preserved : goal.loop-k-preserved
 loop-k-preserved c =
-    pieces_more field_bytes 2 (λ x. refl) c.args.at c.args.fields.now c.args.memory.now c.loop-k.k _ c.loop-k-test.true c.requires _ c.loop-k.invariant _ (omega arith) _ (c.copy-from-slice.ensures.after ∙ c.to-le-bytes.ensures)
+    pieces_more field_bytes 2 (λ x. refl) c.args.at c.args.fields.now c.args.memory.now c.loop-k.k _ c.loop-k-test.true c.requires _ c.loop-k.invariant _ (omega arith) _ (c.copy_from_slice.ensures.after ∙ c.to_le_bytes.ensures)
 
 pub returns : goal.returns
 returns c = c.loop-k.invariant ∙ pieces_all field_bytes c.args.at c.args.fields.now c.args.memory.now c.loop-k.k (omega arith)

@@ -12,7 +12,7 @@ loop-k-preserved c =
     let x = get_or c.args.numbers.now c.loop-k.k (pos 0) in
     let f : SFits w32 x = search rules in
     pieces_more number_bytes 4 (λ x. refl) c.args.at c.args.numbers.now c.args.memory.now c.loop-k.k (pos 0) c.loop-k-test.true c.requires _ c.loop-k.invariant _ (omega arith) _
-    (c.copy-from-slice.ensures.after ∙ c.to-le-bytes.ensures ∙ ap number_bytes (to_z-of_z w32 x f))
+    (c.copy_from_slice.ensures.after ∙ c.to_le_bytes.ensures ∙ ap number_bytes (to_z-of_z w32 x f))
 
 pub returns : goal.returns
 returns c = c.loop-k.invariant ∙ pieces_all number_bytes c.args.at c.args.numbers.now c.args.memory.now c.loop-k.k (omega arith)

@@ -7,5 +7,5 @@ use Rattle.sheet.proofs.format.Mark.is.Goals as goal
 pub returns : goal.returns
 returns c =
     let bytes = c.args.bytes.now in
-    let own = c.letters.result.now in
-    same_from_decides c.eq.result (bytes_eq bytes own) (slice_eq-Decides Decides-eqb bytes own c.eq.result c.eq.ensures) (bytes_eq-Decides bytes own) ∙ ap (bytes_eq bytes) c.letters.ensures
+    let own = c.as_slice.result.now in
+    same_from_decides c.eq.result (bytes_eq bytes own) (slice_eq-Decides Decides-eqb bytes own c.eq.result c.eq.ensures) (bytes_eq-Decides bytes own) ∙ ap (bytes_eq bytes) (c.as_slice.ensures ∙ c.letters.ensures)
