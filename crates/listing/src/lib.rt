@@ -13,7 +13,6 @@ use sheet::reader::read;
 use sheet::refusal::Refusal;
 use sheet::typed::Sheet;
 use std::alloc::{AllocError, Global};
-use std::fmt;
 use std::str::from_utf8;
 
 /// What stands before the term of a coefficient: its sign, and where it is not the first of its sum, blanks around that.
@@ -29,7 +28,7 @@ fn sign(coefficient: i32, first: bool) -> &'static str
 }
 
 /// Adds the term of the unknown `k`, with what stands before it.
-fn push_term(out: &mut String, sign: &str, k: usize, coefficient: i32) -> fmt::Result
+fn push_term(out: &mut String, sign: &str, k: usize, coefficient: i32) -> Result<(), AllocError>
     ensures { OnOk result (string_bytes out.new ≡ string_bytes out.old ++ (sign.now ++ term_text (k, coefficient))) }
 {
     let size = coefficient.unsigned_abs();
@@ -41,7 +40,7 @@ fn push_term(out: &mut String, sign: &str, k: usize, coefficient: i32) -> fmt::R
 }
 
 /// Adds the sum of coefficients times unknowns, and 0 where all are zero.
-fn push_sum(out: &mut String, coefficients: &[i32]) -> fmt::Result
+fn push_sum(out: &mut String, coefficients: &[i32]) -> Result<(), AllocError>
     ensures { OnOk result (string_bytes out.new ≡ string_bytes out.old ++ sum_text coefficients.now) }
 {
     let mut first = true;
@@ -56,7 +55,7 @@ fn push_sum(out: &mut String, coefficients: &[i32]) -> fmt::Result
 }
 
 /// Adds line `i`, counted from 0, as an equation.
-fn push_line(out: &mut String, sheet: &Sheet, i: usize) -> fmt::Result
+fn push_line(out: &mut String, sheet: &Sheet, i: usize) -> Result<(), AllocError>
     requires { i < (says sheet.now).counts.lines }
     ensures { OnOk result (string_bytes out.new ≡ string_bytes out.old ++ line_text (says sheet.now) i) }
 {
@@ -72,7 +71,7 @@ fn push_line(out: &mut String, sheet: &Sheet, i: usize) -> fmt::Result
 }
 
 /// Adds form `i`, counted from 0, as a sum.
-fn push_form(out: &mut String, sheet: &Sheet, i: usize) -> fmt::Result
+fn push_form(out: &mut String, sheet: &Sheet, i: usize) -> Result<(), AllocError>
     requires { i < (says sheet.now).counts.forms }
     ensures { OnOk result (string_bytes out.new ≡ string_bytes out.old ++ form_text (says sheet.now) i) }
 {
@@ -86,7 +85,7 @@ fn push_form(out: &mut String, sheet: &Sheet, i: usize) -> fmt::Result
 }
 
 /// Adds every line.
-fn push_lines(out: &mut String, sheet: &Sheet) -> fmt::Result
+fn push_lines(out: &mut String, sheet: &Sheet) -> Result<(), AllocError>
     ensures { OnOk result (string_bytes out.new ≡ string_bytes out.old ++ lines_text (says sheet.now)) }
 {
     for i in 0..sheet.counts().lines {
@@ -96,7 +95,7 @@ fn push_lines(out: &mut String, sheet: &Sheet) -> fmt::Result
 }
 
 /// Adds every form.
-fn push_forms(out: &mut String, sheet: &Sheet) -> fmt::Result
+fn push_forms(out: &mut String, sheet: &Sheet) -> Result<(), AllocError>
     ensures { OnOk result (string_bytes out.new ≡ string_bytes out.old ++ forms_text (says sheet.now)) }
 {
     for i in 0..sheet.counts().forms {
@@ -116,7 +115,7 @@ fn mark_text(mark: Mark) -> &'static str
 }
 
 /// Adds the first line of the listing: the mark and the counts.
-fn push_header(out: &mut String, sheet: &Sheet) -> fmt::Result
+fn push_header(out: &mut String, sheet: &Sheet) -> Result<(), AllocError>
     ensures { OnOk result (string_bytes out.new ≡ string_bytes out.old ++ header_text (says sheet.now)) }
 {
     let mark = mark_text(sheet.mark());
@@ -128,7 +127,7 @@ fn push_header(out: &mut String, sheet: &Sheet) -> fmt::Result
 }
 
 /// Adds the listing of a sheet.
-fn push_sheet(out: &mut String, sheet: &Sheet) -> fmt::Result
+fn push_sheet(out: &mut String, sheet: &Sheet) -> Result<(), AllocError>
     ensures { OnOk result (string_bytes out.new ≡ string_bytes out.old ++ sheet_text (says sheet.now)) }
 {
     push_header(out, sheet)?;
@@ -137,7 +136,7 @@ fn push_sheet(out: &mut String, sheet: &Sheet) -> fmt::Result
 }
 
 /// Adds what is said of a sheet that is refused.
-fn push_refusal(out: &mut String, refusal: Refusal) -> fmt::Result
+fn push_refusal(out: &mut String, refusal: Refusal) -> Result<(), AllocError>
     ensures { OnOk result (string_bytes out.new ≡ string_bytes out.old ++ refusal_text refusal) }
 {
     let number = refusal.number();
@@ -150,15 +149,11 @@ pub fn list(heap: Global, bytes: &[u8]) -> Result<String, AllocError>
     ensures { IfOk result (λ s. string_bytes s ≡ listing bytes.now) }
 {
     let mut out = String::new(heap);
-    let written = match read(bytes) {
-        Ok(sheet) => push_sheet(&mut out, &sheet),
-        Err(refusal) => push_refusal(&mut out, refusal),
-    };
-    // Adding to a `String` fails only for want of memory.
-    match written {
-        Ok(()) => Ok(out),
-        Err(_) => Err(AllocError),
+    match read(bytes) {
+        Ok(sheet) => push_sheet(&mut out, &sheet)?,
+        Err(refusal) => push_refusal(&mut out, refusal)?,
     }
+    Ok(out)
 }
 
 /// Does nothing: its contract is that the definition of a listing gives what was worked out by hand.

@@ -11,4 +11,4 @@ returns c =
     let label = codes "form " in
     let number = decimal (c.args.i + 1) in
     IfOk-weaker c.write-2.result _ _
-    (λ _ h. h ∙ three out label number (sum_text c.in-Some.row.now) (codes "\n") _ _ c.in-ok-write.ensures.bytes c.in-ok-push-sum.ensures ∙ ap (λ cs. out ++ (label ++ (number ++ (codes ": " ++ (sum_text cs ++ codes "\n"))))) row) c.write-2.ensures.bytes
+    (λ _ h. h ∙ three out label number (sum_text c.in-Some.row.now) (codes "\n") _ _ c.in_ok-write.ensures.bytes c.in_ok-push_sum.ensures ∙ ap (λ cs. out ++ (label ++ (number ++ (codes ": " ++ (sum_text cs ++ codes "\n"))))) row) c.write-2.ensures.bytes

@@ -6,4 +6,4 @@ use Rattle.listing.proofs.push_forms.Goals as goal
 
 pub loop-i-preserved : goal.loop-i-preserved
 loop-i-preserved c =
-    flat_map-range_with_len (form_text (says c.args.sheet.now)) (string_bytes c.args.out.now) c.loop-i.i _ _ c.loop-i.invariant c.in-ok-push-form.ensures
+    flat_map-range_with_len (form_text (says c.args.sheet.now)) (string_bytes c.args.out.now) c.loop-i.i _ _ c.loop-i.invariant c.in_ok-push_form.ensures

@@ -16,4 +16,4 @@ returns c =
     let z = get_or c.in-Some.row.now u (pos 0) in
     let f : SFits w32 z = search rules in
     IfOk-weaker c.write-2.result _ _
-    (λ _ h. h ∙ three out label number (sum_text (take (u - 0) c.in-Some.row.now)) _ _ _ c.in-ok-write.ensures.bytes c.in-ok-push-sum.ensures ∙ ap (λ t. out ++ (label ++ (number ++ (codes ": " ++ t)))) (equation _ u c.in-Some.row.now _ (to_z w32 (of_z w32 z)) (ap (λ (n : Counts). n.unknowns) c.counts-unknowns.ensures) row (to_z-of_z w32 z f))) c.write-2.ensures.bytes
+    (λ _ h. h ∙ three out label number (sum_text (take (u - 0) c.in-Some.row.now)) _ _ _ c.in_ok-write.ensures.bytes c.in_ok-push_sum.ensures ∙ ap (λ t. out ++ (label ++ (number ++ (codes ": " ++ t)))) (equation _ u c.in-Some.row.now _ (to_z w32 (of_z w32 z)) (ap (λ (n : Counts). n.unknowns) c.counts-unknowns.ensures) row (to_z-of_z w32 z f))) c.write-2.ensures.bytes

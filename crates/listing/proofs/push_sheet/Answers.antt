@@ -8,7 +8,7 @@ pub returns : goal.returns
 returns c =
     let s = says c.args.sheet.now in
     let out = string_bytes c.args.out.now in
-    let head = ap (λ l. l ++ lines_text s) c.in-ok-push-header.ensures in
-    let both = ap (λ l. l ++ forms_text s) (c.in-ok-push-lines.ensures ∙ head) in
-    IfOk-weaker c.push-forms.result _ _
-    (λ _ h. h ∙ both ∙ append_assoc (out ++ header_text s) (lines_text s) (forms_text s) ∙ append_assoc out (header_text s) (lines_text s ++ forms_text s)) c.push-forms.ensures
+    let head = ap (λ l. l ++ lines_text s) c.in_ok-push_header.ensures in
+    let both = ap (λ l. l ++ forms_text s) (c.in_ok-push_lines.ensures ∙ head) in
+    IfOk-weaker c.push_forms.result _ _
+    (λ _ h. h ∙ both ∙ append_assoc (out ++ header_text s) (lines_text s) (forms_text s) ∙ append_assoc out (header_text s) (lines_text s ++ forms_text s)) c.push_forms.ensures

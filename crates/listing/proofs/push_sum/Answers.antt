@@ -4,7 +4,7 @@ use Rattle.std.proofs.lemmas.Int.{to_z-of_z}
 use Rattle.listing.specs.Listing.{terms}
 use Rattle.listing.proofs.Terms.{rest_text, sum_skip, sum_step, sum_all, zero_from_bits, bits_from_zero}
 use Rattle.listing.proofs.push_sum.Goals as goal
-use Rattle.listing.proofs.push_sum.Goals.{then-coefficient-ne0+in-ok-push-term, else-coefficient-ne0}
+use Rattle.listing.proofs.push_sum.Goals.{then-coefficient-ne0+in_ok-push_term, else-coefficient-ne0}
 
 pub loop-k-preserved : goal.loop-k-preserved
 loop-k-preserved c =
@@ -13,9 +13,9 @@ loop-k-preserved c =
     let x = get_or xs k (pos 0) in
     let f : SFits w32 x = search rules in
     elim c.if-coefficient-ne0.branch [
-      | then-coefficient-ne0+in-ok-push-term w ↦
+      | then-coefficient-ne0+in_ok-push_term w ↦
           (λ i. string_bytes (w.out-is i) ++ rest_text (w.first-is i) (terms (k + 1 + 1) (drop (k + 1) xs)))
-          ∙ sum_step xs k c.loop-k-test.true _ c.loop-k.first _ c.loop-k.invariant (λ z. w.if-coefficient-ne0.true (bits_from_zero x z)) _ (to_z-of_z w32 x f) _ w.sign.ensures _ w.in-ok-push-term.ensures
+          ∙ sum_step xs k c.loop-k-test.true _ c.loop-k.first _ c.loop-k.invariant (λ z. w.if-coefficient-ne0.true (bits_from_zero x z)) _ (to_z-of_z w32 x f) _ w.sign.ensures _ w.in_ok-push_term.ensures
       | else-coefficient-ne0 w ↦
           (λ i. string_bytes (w.out-is i) ++ rest_text (w.first-is i) (terms (k + 1 + 1) (drop (k + 1) xs)))
           ∙ sum_skip xs k c.loop-k-test.true _ c.loop-k.first _ c.loop-k.invariant (zero_from_bits x f w.if-coefficient-ne0.false)
