@@ -1,4 +1,7 @@
 // Lists the sheets in the files that its arguments name, one after another.
+
+#![tactic(auto)]
+
 use listing::list;
 use std::{env, fs};
 

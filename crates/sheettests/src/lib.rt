@@ -45,8 +45,8 @@ mod tests {
         let mut memory = [FILL; 83];
         let length = write(Mark::Frac, counts(2, 4, 2), &LINES, &FORMS, &mut memory)?;
         assert!(rt; length == 80);
-        assert!(rt; &memory[0..80] == TWO_RATES);
-        assert!(rt; &memory[80..83] == &[FILL; 3]);
+        assert!(rt; &memory[0..80] == TWO_RATES.as_slice());
+        assert!(rt; &memory[80..83] == [FILL; 3].as_slice());
         Ok(())
     }
 
@@ -55,9 +55,9 @@ mod tests {
         let sheet = read(TWO_RATES)?;
         assert_eq!(rt; sheet.mark(), Mark::Frac);
         assert_eq!(rt; sheet.counts(), counts(2, 4, 2));
-        assert!(rt; sheet.line(3).ok_or("line")? == &[1, 1, 1]);
+        assert!(rt; sheet.line(3).ok_or("line")? == [1, 1, 1].as_slice());
         assert!(rt; sheet.line(4).is_none());
-        assert!(rt; sheet.form(1).ok_or("form")? == &[1, -2]);
+        assert!(rt; sheet.form(1).ok_or("form")? == [1, -2].as_slice());
         assert!(rt; sheet.form(2).is_none());
         Ok(())
     }
@@ -151,8 +151,8 @@ mod tests {
         assert!(rt; length == 4016);
         assert!(rt; memory[4016] == FILL);
         let sheet = read(&memory[0..4016])?;
-        assert!(rt; sheet.line(39).ok_or("line")? == &[-7; 13]);
-        assert!(rt; sheet.form(39).ok_or("form")? == &[9; 12]);
+        assert!(rt; sheet.line(39).ok_or("line")? == [-7; 13].as_slice());
+        assert!(rt; sheet.form(39).ok_or("form")? == [9; 12].as_slice());
         Ok(())
     }
 }

@@ -1,4 +1,7 @@
 // Prints what the sheet on standard input says.
+
+#![tactic(auto)]
+
 use listing::list;
 use std::io::Read;
 
