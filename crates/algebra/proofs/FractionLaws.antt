@@ -12,7 +12,7 @@ use Rattle.integers.proofs.GcdLaws.{gcd_left, gcd_right, coprime_dvd}
 use Rattle.integers.proofs.Sizes.{unsigned_abs-*ℤ, quot_times, cancel}
 use Rattle.integers.proofs.RingInt.{ringℤ}
 use Rattle.algebra.specs.Fraction.{Q, normal, plus_q, times_q, minus_q, zero_q, one_q, one_pos, over_by, over_q}
-use Rattle.integers.proofs.Ring.{Expr.var, Expr.◌⊕◌, Expr.◌⊗◌, Expr.⊝, Expr.O, Expr.I, Expr.num, Eqn.◌⊜◌, combine, ring₂, ring₄, ring₆, v₀, v₁, v₂, v₃, v₄, v₅}
+use Rattle.integers.proofs.Ring.{Expr.var, Expr.◌⊕◌, Expr.◌⊗◌, Expr.⊝, Expr.O, Expr.I, Eqn.◌⊜◌, combine, ring₂, ring₄, ring₆, v₀, v₁, v₂, v₃, v₄, v₅}
 
 pub Q_path : (p q : Q) → p.num ≡ q.num → p.den ≡ q.den → p ≡ q
 Q_path p q e f = λ i. record {

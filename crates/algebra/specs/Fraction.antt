@@ -7,7 +7,8 @@
 --     whole_q z           the whole number z as a fraction
 --     ratio n d          the fraction n / d
 use Rattle.std.specs.Prelude.{◌≡◌, ℕ, suc, ◌*◌, ◌/◌, ◌<◌, Bool, ℤ, pos, negsuc, ◌+ℤ◌, ◌*ℤ◌, neg_ℤ, nat_lt, unsigned_abs}
-use Rattle.std.proofs.Common.{◌∙◌, ap, mul-pos, arith}
+use Rattle.std.proofs.Common.{◌∙◌, ap, mul-pos}
+use Rattle.std.proofs.Math.Nat.{zero-lt-suc}
 use Prim.Native.Nat as Nat
 use Rattle.integers.specs.Divisors.{gcd}
 use Rattle.integers.proofs.GcdLaws.{gcd_right, quot_pos, gcd_quotients, gcd_one}
@@ -39,7 +40,7 @@ unfoldable pub minus_q : Q → Q
 minus_q p = normal (neg_ℤ p.num) p.den p.den_pos
 
 pub one_pos : 0 < 1
-one_pos = omega arith
+one_pos = zero-lt-suc 0
 
 abbrev pub whole_q : ℤ → Q
 whole_q z = record { num = z; den = 1; den_pos = one_pos; low = gcd_one (unsigned_abs z) }
@@ -53,8 +54,8 @@ one_q = whole_q (pos 1)
 -- the reciprocal of n / d is d / n, with the sign above the line
 unfoldable pub over_by : ℤ → (d : ℕ) → 0 < d → Q
 over_by (pos Nat.zero) d h = zero_q
-over_by (pos (suc n)) d h = normal (pos d) (suc n) (omega arith)
-over_by (negsuc n) d h = normal (neg_ℤ (pos d)) (suc n) (omega arith)
+over_by (pos (suc n)) d h = normal (pos d) (suc n) (zero-lt-suc n)
+over_by (negsuc n) d h = normal (neg_ℤ (pos d)) (suc n) (zero-lt-suc n)
 
 unfoldable pub over_q : Q → Q
 over_q p = over_by p.num p.den p.den_pos
@@ -63,7 +64,7 @@ abbrev pub heavier_q : Q → Q → Bool
 heavier_q p q = nat_lt (unsigned_abs q.num * p.den) (unsigned_abs p.num * q.den)
 
 pub suc_pos : (d : ℕ) → 0 < suc d
-suc_pos d = omega arith
+suc_pos d = zero-lt-suc d
 
 -- n / d as a fraction, and 0 where d is 0
 abbrev pub ratio : ℤ → ℕ → Q

@@ -8,7 +8,8 @@
 --     heavier_r p h a b   a is not zero, and b is
 use Rattle.std.specs.Prelude.{ℕ, suc, ◌+◌, ◌-◌, ◌*◌, ◌%◌, ◌<◌, Bool, true, false, not, ◌&&◌, ℤ, pos, negsuc, ◌==◌}
 use Prim.Native.Nat as Nat
-use Rattle.std.proofs.Common.{mod-lt, arith}
+use Rattle.std.proofs.Common.{mod-lt}
+use Rattle.std.proofs.Math.Nat.{zero-lt-suc, lt_trans}
 
 pub record Rem (p : ℕ) : Type 0 where
   pub value : ℕ
@@ -21,7 +22,7 @@ first_from p a (suc k) b = elim (a * b % p == 1) [ true ↦ b | false ↦ first_
 
 module _ (p : ℕ) (h : 1 < p) where
   pub above_zero : 0 < p
-  above_zero = omega arith
+  above_zero = lt_trans (zero-lt-suc 0) h
 
   abbrev pub rem : ℕ → Rem p
   rem n = record { value = n % p; below = mod-lt n above_zero }

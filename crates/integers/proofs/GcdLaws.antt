@@ -1,6 +1,5 @@
 -- What the greatest common divisor is: it divides both, and what divides both divides it. Assumes nothing.
 use Rattle.std.proofs.Common.{◌≡◌, ℕ, zero, suc, ◌+◌, ◌*◌, ◌/◌, ◌%◌, ◌<◌, ◌≤◌, sym, refl, ap, ◌∙◌, subst, mod-lt, mul_assoc, mul_comm, add-mul, mul-pos, one-mul, mul-zero, mul-one, arith}
-use Prim.Native.Nat as Nat
 use Prim.Native.Nat.{◌∣◌}
 use native.Mathlib.Nat.{dvd_refl, dvd-zero, dvd-mod_iff, dvd-add_iff_right, dvd-mul_right_of_dvd, div-add-mod, pos_of_dvd_of_pos, le_of_dvd, mul-div_cancel', mul-dvd-mul_left, dvd-mul_right, le_of_mul-le-mul_left, dvd_antisymm, one-dvd}
 use Rattle.integers.specs.Divisors.{gcd, gcd_by, Greatest}
