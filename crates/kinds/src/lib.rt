@@ -1,3 +1,4 @@
+#![tactic(auto)]
 // Kinds of number: the interface that everything above counts through. It knows no kind.
 ghost use Rattle.std.specs.Prelude.{◌≡◌, ℕ, true, ◌↔◌, List, ℤ, pos, ◌+ℤ◌, None, Option};
 ghost use Rattle.algebra.specs.Field.{Field, less, divided};

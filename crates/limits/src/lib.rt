@@ -1,3 +1,4 @@
+#![tactic(auto)]
 // What every layer shares: the letters of the kinds of number, how many unknowns there may be, how large a number.
 
 // The letters by which the kinds of number are marked.

@@ -1,1 +1,2 @@
+#![tactic(auto)]
 // What is written over lent memory, as mathematics. All of it is definitions and lemmas.
