@@ -1,10 +1,10 @@
 -- Exact fractions, of any size. Assumes nothing.
 --     Q                  a fraction in lowest terms: num over den, den above 0 and without a divisor in common with num
 --     normal n d h       n / d, brought to lowest terms
---     plus_q, times_q      sum and product
---     minus_q, over_q      negative and reciprocal; that of zero is zero
---     heavier_q p q       p lies further from zero than q
---     whole_q z           the whole number z as a fraction
+--     plus_q, times_q    sum and product
+--     minus_q, over_q    negative and reciprocal; that of zero is zero
+--     heavier_q p q      p lies further from zero than q
+--     whole_q z          the whole number z as a fraction
 --     ratio n d          the fraction n / d
 use Rattle.std.specs.Prelude.{◌≡◌, ℕ, suc, ◌*◌, ◌/◌, ◌<◌, Bool, ℤ, pos, negsuc, ◌+ℤ◌, ◌*ℤ◌, neg_ℤ, nat_lt, unsigned_abs}
 use Rattle.std.proofs.Common.{◌∙◌, ap, mul-pos}

@@ -1,11 +1,11 @@
 -- The remainders by a number p above 1, which are a field where p is prime. Assumes nothing.
 --     Rem p              a number below p
 --     rem p h n          the remainder of n by p
---     plus_r, times_r      sum and product, as remainders
---     minus_r, over_r      negative and reciprocal; that of zero is zero
---     zero_r, one_r        0 and 1
---     whole_r p h z       the remainder of the integer z, from 0 to p − 1 also where z is negative
---     heavier_r p h a b   a is not zero, and b is
+--     plus_r, times_r    sum and product, as remainders
+--     minus_r, over_r    negative and reciprocal; that of zero is zero
+--     zero_r, one_r      0 and 1
+--     whole_r p h z      the remainder of the integer z, from 0 to p − 1 also where z is negative
+--     heavier_r p h a b  a is not zero, and b is
 use Rattle.std.specs.Prelude.{ℕ, suc, ◌+◌, ◌-◌, ◌*◌, ◌%◌, ◌<◌, Bool, true, false, not, ◌&&◌, ℤ, pos, negsuc, ◌==◌}
 use Prim.Native.Nat as Nat
 use Rattle.std.proofs.Common.{mod-lt}

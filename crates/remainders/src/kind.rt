@@ -5,7 +5,7 @@ ghost use Rattle.remainders.specs.Moduli.{modulus, rest_digits, modulus_prime};
 ghost use Rattle.remainders.specs.Remainders.{exact_r, rest_field, misfit_r, taken_r};
 ghost use Rattle.algebra.proofs.RemainderLaws.{whole_r_zero, whole_r_one, whole_r_plus};
 ghost use Rattle.remainders.specs.RestValues.{stored_same, value_same};
-ghost use Rattle.std.proofs.Common.{rules, arith};
+ghost use Rattle.std.specs.Prelude.{refl};
 
 use crate::Remainder;
 use kinds::Kind;
@@ -37,9 +37,9 @@ impl Kind for Remainder {
 
     ghost taken_sum = { λ a b. whole_r_plus modulus modulus_prime.0 a b };
 
-    ghost taken_fits = { first_of (Prim.search rules, Prim.grind (arith, Self.row.coded.inj)) };
+    ghost taken_fits = { λ z h. refl };
 
-    ghost stored_fits = { first_of (Prim.search rules, Prim.grind (arith, Self.row.coded.inj)) };
+    ghost stored_fits = { λ v. refl };
 
     ghost one_form = { λ a b e. stored_same a b (value_same a (exact_r b) e) };
 

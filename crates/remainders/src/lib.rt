@@ -1,3 +1,4 @@
+#![tactic(auto)]
 // REST: how remainders are stored, and counting with them by any modulus `by`.
 ghost use Rattle.std.specs.Prelude.{◌≡◌, ◌+◌, ◌-◌, ◌*◌, ◌%◌, ◌<◌, ◌≤◌};
 ghost use Rattle.integers.specs.Divisors.{gcd};

@@ -19,10 +19,10 @@ loop-low-init c = (
 pub loop-low-preserved : goal.loop-low-preserved
 loop-low-preserved c =
     let by = c.args.by in
-    let factor = c.difference-by-rest-factor.ensures ∙ ap (λ (x : ℕ). (c.loop-low.high-factor + (by - x)) % by) c.product-by-taken.ensures in
-    let below : c.difference-by-rest-factor.result < by = omega (arith, c.difference-by-rest-factor.ensures, mod-lt (c.loop-low.high-factor + (by - c.product-by-taken.result)) {m = by} (omega arith)) in (
+    let factor = c.difference_by-rest_factor.ensures ∙ ap (λ (x : ℕ). (c.loop-low.high_factor + (by - x)) % by) c.product_by-taken.ensures in
+    let below : c.difference_by-rest_factor.result < by = omega (arith, c.difference_by-rest_factor.ensures, mod-lt (c.loop-low.high_factor + (by - c.product_by-taken.result)) {m = by} (omega arith)) in (
       c.loop-low.invariant.1,
-      ap (λ (x : ℕ). c.args.a * x % by) factor ∙ rest_of by c.args.a c.loop-low.high-factor c.loop-low.low-factor c.loop-low.high c.loop-low.low (omega arith) c.loop-low.invariant.0 c.loop-low.invariant.1,
+      ap (λ (x : ℕ). c.args.a * x % by) factor ∙ rest_of by c.args.a c.loop-low.high_factor c.loop-low.low_factor c.loop-low.high c.loop-low.low (omega arith) c.loop-low.invariant.0 c.loop-low.invariant.1,
       c.loop-low.invariant.3,
       below,
       omega arith,

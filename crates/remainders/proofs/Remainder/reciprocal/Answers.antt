@@ -9,8 +9,8 @@ use Rattle.remainders.proofs.ByModulus.{coprime_value}
 use Rattle.remainders.specs.RestValues.{value_same}
 use Rattle.remainders.proofs.Remainder.reciprocal.Goals as goal
 
-pub reciprocal-by-requires : goal.reciprocal-by-requires
-reciprocal-by-requires c = record {
+pub reciprocal_by-requires : goal.reciprocal_by-requires
+reciprocal_by-requires c = record {
   left = c.args.self.below;
   large = omega arith;
   small = omega arith;
@@ -18,4 +18,4 @@ reciprocal-by-requires c = record {
 }
 
 pub returns : goal.returns
-returns c = over_by_product modulus modulus_prime (exact_r c.args.self) _ (Rem_path _ (one_r modulus modulus_prime.0) c.reciprocal-by.ensures.inverse)
+returns c = over_by_product modulus modulus_prime (exact_r c.args.self) _ (Rem_path _ (one_r modulus modulus_prime.0) c.reciprocal_by.ensures.inverse)

@@ -5,8 +5,8 @@ use Rattle.remainders.specs.Remainders.{taken_r}
 use Rattle.remainders.specs.RestValues.{exact_same}
 use Rattle.remainders.proofs.Remainder.whole.Goals as goal
 
-pub invariant-of-result : goal.invariant-of-result
-invariant-of-result c = (subst (λ (x : ℕ). x < modulus) (sym (c.whole-by.ensures modulus_prime.0)) (taken_r (to_z w32 (of_z w32 c.args.z))).below, tt)
+pub invariant_of-result : goal.invariant_of-result
+invariant_of-result c = record { below = subst (λ (x : ℕ). x < modulus) (sym (c.whole_by.ensures modulus_prime.0)) (taken_r (to_z w32 (of_z w32 c.args.z))).below }
 
 pub returns : goal.returns
-returns c = exact_same _ (taken_r c.args.z) (c.whole-by.ensures modulus_prime.0 ∙ ap (λ (z : ℤ). (taken_r z).value) (to_z-of_z w32 c.args.z c.ranges.z))
+returns c = exact_same _ (taken_r c.args.z) (c.whole_by.ensures modulus_prime.0 ∙ ap (λ (z : ℤ). (taken_r z).value) (to_z-of_z w32 c.args.z c.ranges.z))
