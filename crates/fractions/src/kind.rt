@@ -5,7 +5,7 @@ ghost use Rattle.algebra.proofs.FractionField.{field_q, whole_q_plus};
 ghost use Rattle.fractions.specs.Fractions.{exact_q, misfit_q};
 ghost use Rattle.fractions.specs.Terms.{longest_fraction};
 ghost use Rattle.fractions.specs.FracValues.{fraction_same, same_num, same_den};
-ghost use Rattle.std.proofs.Common.{rules, arith};
+ghost use Rattle.std.proofs.Common.{rules};
 
 use crate::Fraction;
 use kinds::Kind;
@@ -31,15 +31,15 @@ impl Kind for Fraction {
 
     const LONGEST: usize = 22;
 
-    ghost taken_zero = { first_of (Prim.search rules, Prim.grind (arith, Self.row.coded.inj)) };
+    ghost taken_zero = { Prim.search rules };
 
-    ghost taken_one = { first_of (Prim.search rules, Prim.grind (arith, Self.row.coded.inj)) };
+    ghost taken_one = { Prim.search rules };
 
     ghost taken_sum = { λ a b. whole_q_plus a b };
 
-    ghost taken_fits = { first_of (Prim.search rules, Prim.grind (arith, Self.row.coded.inj)) };
+    ghost taken_fits = { Prim.search rules };
 
-    ghost stored_fits = { first_of (Prim.search rules, Prim.grind (arith, Self.row.coded.inj)) };
+    ghost stored_fits = { Prim.search rules };
 
     ghost one_form = { λ a b e. fraction_same a b (same_num (exact_q a) (exact_q b) e) (same_den (exact_q a) (exact_q b) e) };
 

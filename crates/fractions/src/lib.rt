@@ -1,4 +1,7 @@
 // FRAC: fractions in lowest terms, those that are stored and those that are still to be judged.
+
+#![tactic(auto)]
+
 ghost use Rattle.std.specs.Prelude.{◌≡◌, ◌<◌, ◌≤◌, unsigned_abs};
 ghost use Rattle.integers.specs.Divisors.{gcd};
 ghost use Rattle.fractions.specs.Terms.{part_limit};

@@ -5,18 +5,16 @@ use Rattle.algebra.proofs.Reduced.{plus_from, apart_lowest}
 use Rattle.fractions.specs.Fractions.{exact_q}
 use Rattle.fractions.proofs.Fraction.plus_apart.Goals as goal
 
-pub invariant-of-result : goal.invariant-of-result
-invariant-of-result c =
+pub invariant_of-result : goal.invariant_of-result
+invariant_of-result c =
     let f : SFits w64 c.joint.result = search rules in
     let p = c.args.self in
-    let q = c.args.other in (
-      mul-pos p.above q.above,
-      (
-        ap (λ (z : ℤ). gcd (nat_abs z) (p.denominator * q.denominator)) (to_z-of_z w64 c.joint.result f ∙ c.joint.ensures.value)
-            ∙ apart_lowest p.numerator q.numerator p.denominator q.denominator p.above q.above p.lowest q.lowest c.requires,
-        tt,
-      ),
-    )
+    let q = c.args.other in record {
+      above = mul-pos p.above q.above;
+      lowest =
+          ap (λ (z : ℤ). gcd (nat_abs z) (p.denominator * q.denominator)) (to_z-of_z w64 c.joint.result f ∙ c.joint.ensures.value)
+          ∙ apart_lowest p.numerator q.numerator p.denominator q.denominator p.above q.above p.lowest q.lowest c.requires;
+    }
 
 pub returns : goal.returns
 returns c =

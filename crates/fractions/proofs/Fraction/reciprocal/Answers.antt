@@ -8,22 +8,24 @@ use Rattle.fractions.specs.Fractions.{exact_q}
 use Rattle.fractions.proofs.Made.{turned_above, turned_low, turned_small, turned_fine, turned_is}
 use Rattle.fractions.proofs.Fraction.reciprocal.Goals as goal
 
-pub invariant-of-result : goal.invariant-of-result
-invariant-of-result c =
+pub invariant_of-result : goal.invariant_of-result
+invariant_of-result c =
     let a : SFits w32 c.args.self.numerator = search rules in
-    let f : SFits w32 c.with-sign-of.result = search rules in
+    let f : SFits w32 c.with_sign_of.result = search rules in
     let p = to_z-of_z w32 c.args.self.numerator a in
-    let m = to_z-of_z w32 c.with-sign-of.result f ∙ c.with-sign-of.ensures ∙ ap (λ (z : ℤ). with_sign z c.args.self.denominator) p in
-    let u = c.unsigned-abs.ensures.value ∙ ap nat_abs p in (
-      turned_above c.args.self _ c.unsigned-abs.result m u (none_zero c.args.self.numerator c.requires),
-      (turned_low c.args.self _ c.unsigned-abs.result m u, (turned_small c.args.self _ c.unsigned-abs.result m u, (turned_fine c.args.self _ c.unsigned-abs.result m u, tt))),
-    )
+    let m = to_z-of_z w32 c.with_sign_of.result f ∙ c.with_sign_of.ensures ∙ ap (λ (z : ℤ). with_sign z c.args.self.denominator) p in
+    let u = c.unsigned_abs.ensures.value ∙ ap nat_abs p in record {
+      above = turned_above c.args.self _ c.unsigned_abs.result m u (none_zero c.args.self.numerator c.requires);
+      lowest = turned_low c.args.self _ c.unsigned_abs.result m u;
+      low = turned_small c.args.self _ c.unsigned_abs.result m u;
+      fine = turned_fine c.args.self _ c.unsigned_abs.result m u;
+    }
 
 pub returns : goal.returns
 returns c =
     let a : SFits w32 c.args.self.numerator = search rules in
-    let f : SFits w32 c.with-sign-of.result = search rules in
+    let f : SFits w32 c.with_sign_of.result = search rules in
     let p = to_z-of_z w32 c.args.self.numerator a in
-    let m = to_z-of_z w32 c.with-sign-of.result f ∙ c.with-sign-of.ensures ∙ ap (λ (z : ℤ). with_sign z c.args.self.denominator) p in
-    let u = c.unsigned-abs.ensures.value ∙ ap nat_abs p in
-    over_from (exact_q c.args.self) _ (λ e. none_zero c.args.self.numerator c.requires (ap (λ (q : Q). q.num) e)) (turned_is c.args.self _ c.unsigned-abs.result m u)
+    let m = to_z-of_z w32 c.with_sign_of.result f ∙ c.with_sign_of.ensures ∙ ap (λ (z : ℤ). with_sign z c.args.self.denominator) p in
+    let u = c.unsigned_abs.ensures.value ∙ ap nat_abs p in
+    over_from (exact_q c.args.self) _ (λ e. none_zero c.args.self.numerator c.requires (ap (λ (q : Q). q.num) e)) (turned_is c.args.self _ c.unsigned_abs.result m u)

@@ -8,42 +8,45 @@ use Rattle.fractions.specs.Fractions.{exact_q}
 use Rattle.fractions.proofs.Made.{product_above, product_low, product_is}
 use Rattle.fractions.proofs.Fraction.times_crosswise.Goals as goal
 
-pub part-product-requires : goal.part-product-requires
-part-product-requires c = record {
-  left = divisor_pos c.gcd-g.result c.unsigned-abs.result c.args.other.denominator c.gcd-g.ensures.value c.args.other.above;
-  right = divisor_pos c.gcd-h.result c.unsigned-abs-2.result c.args.self.denominator c.gcd-h.ensures.value c.args.self.above;
+pub part_product-requires : goal.part_product-requires
+part_product-requires c = record {
+  left = divisor_pos c.gcd-g.result c.unsigned_abs.result c.args.other.denominator c.gcd-g.ensures.value c.args.other.above;
+  right = divisor_pos c.gcd-h.result c.unsigned_abs-2.result c.args.self.denominator c.gcd-h.ensures.value c.args.self.above;
 }
 
 pub share-requires : goal.share-requires
-share-requires c = divisor_pos c.gcd-h.result c.unsigned-abs-2.result c.args.self.denominator c.gcd-h.ensures.value c.args.self.above
+share-requires c = divisor_pos c.gcd-h.result c.unsigned_abs-2.result c.args.self.denominator c.gcd-h.ensures.value c.args.self.above
 
 pub share-requires-2 : goal.share-requires-2
-share-requires-2 c = divisor_pos c.gcd-g.result c.unsigned-abs.result c.args.other.denominator c.gcd-g.ensures.value c.args.other.above
+share-requires-2 c = divisor_pos c.gcd-g.result c.unsigned_abs.result c.args.other.denominator c.gcd-g.ensures.value c.args.other.above
 
-pub invariant-of-result : goal.invariant-of-result
-invariant-of-result c =
+pub invariant_of-result : goal.invariant_of-result
+invariant_of-result c =
     let a : SFits w32 c.args.self.numerator = search rules in
     let b : SFits w32 c.args.other.numerator = search rules in
-    let f : SFits w64 c.part-product.result = search rules in
+    let f : SFits w64 c.part_product.result = search rules in
     let p = to_z-of_z w32 c.args.self.numerator a in
     let q = to_z-of_z w32 c.args.other.numerator b in
-    let m = to_z-of_z w64 c.part-product.result f ∙ c.part-product.ensures ∙ ap₂ (λ (x y : ℤ). quot x c.gcd-g.result *ℤ quot y c.gcd-h.result) p q in
-    let u = c.unsigned-abs.ensures.value ∙ ap nat_abs p in
-    let v = c.unsigned-abs-2.ensures.value ∙ ap nat_abs q in
+    let m = to_z-of_z w64 c.part_product.result f ∙ c.part_product.ensures ∙ ap₂ (λ (x y : ℤ). quot x c.gcd-g.result *ℤ quot y c.gcd-h.result) p q in
+    let u = c.unsigned_abs.ensures.value ∙ ap nat_abs p in
+    let v = c.unsigned_abs-2.ensures.value ∙ ap nat_abs q in
     let d = ap₂ ◌*◌ c.share.ensures c.share-2.ensures in
-    (subst (λ (x : ℕ). 0 < x) (sym d) (product_above c.args.self c.args.other c.gcd-g.result c.gcd-h.result c.unsigned-abs.result c.unsigned-abs-2.result _ u c.gcd-g.ensures.value v c.gcd-h.ensures.value m), (ap (λ (x : ℕ). gcd (nat_abs (to_z w64 (of_z w64 c.part-product.result))) x) d ∙ product_low c.args.self c.args.other c.gcd-g.result c.gcd-h.result c.unsigned-abs.result c.unsigned-abs-2.result _ u c.gcd-g.ensures.value v c.gcd-h.ensures.value m, tt))
+    record {
+      above = subst (λ (x : ℕ). 0 < x) (sym d) (product_above c.args.self c.args.other c.gcd-g.result c.gcd-h.result c.unsigned_abs.result c.unsigned_abs-2.result _ u c.gcd-g.ensures.value v c.gcd-h.ensures.value m);
+      lowest = ap (λ (x : ℕ). gcd (nat_abs (to_z w64 (of_z w64 c.part_product.result))) x) d ∙ product_low c.args.self c.args.other c.gcd-g.result c.gcd-h.result c.unsigned_abs.result c.unsigned_abs-2.result _ u c.gcd-g.ensures.value v c.gcd-h.ensures.value m;
+    }
 
 pub returns : goal.returns
 returns c =
     let a : SFits w32 c.args.self.numerator = search rules in
     let b : SFits w32 c.args.other.numerator = search rules in
-    let f : SFits w64 c.part-product.result = search rules in
+    let f : SFits w64 c.part_product.result = search rules in
     let p = to_z-of_z w32 c.args.self.numerator a in
     let q = to_z-of_z w32 c.args.other.numerator b in
-    let m = to_z-of_z w64 c.part-product.result f ∙ c.part-product.ensures ∙ ap₂ (λ (x y : ℤ). quot x c.gcd-g.result *ℤ quot y c.gcd-h.result) p q in
-    let u = c.unsigned-abs.ensures.value ∙ ap nat_abs p in
-    let v = c.unsigned-abs-2.ensures.value ∙ ap nat_abs q in
+    let m = to_z-of_z w64 c.part_product.result f ∙ c.part_product.ensures ∙ ap₂ (λ (x y : ℤ). quot x c.gcd-g.result *ℤ quot y c.gcd-h.result) p q in
+    let u = c.unsigned_abs.ensures.value ∙ ap nat_abs p in
+    let v = c.unsigned_abs-2.ensures.value ∙ ap nat_abs q in
     let d = ap₂ ◌*◌ c.share.ensures c.share-2.ensures in
     times_from (exact_q c.args.self) (exact_q c.args.other) _
-    (product_is c.args.self c.args.other c.gcd-g.result c.gcd-h.result c.unsigned-abs.result c.unsigned-abs-2.result _ u c.gcd-g.ensures.value v c.gcd-h.ensures.value m
+    (product_is c.args.self c.args.other c.gcd-g.result c.gcd-h.result c.unsigned_abs.result c.unsigned_abs-2.result _ u c.gcd-g.ensures.value v c.gcd-h.ensures.value m
     ∙ ap (λ (x : ℕ). (c.args.self.numerator *ℤ c.args.other.numerator) *ℤ pos x) (sym d))

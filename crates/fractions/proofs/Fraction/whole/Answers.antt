@@ -4,8 +4,8 @@ use Rattle.algebra.proofs.FractionLaws.{Q_path}
 use Rattle.algebra.specs.Fraction.{whole_q}
 use Rattle.fractions.proofs.Fraction.whole.Goals as goal
 
-pub invariant-of-result : goal.invariant-of-result
-invariant-of-result c = (search rules, (gcd_one (nat_abs (to_z w32 (of_z w32 c.args.z))), (search rules, (search rules, tt))))
+pub invariant_of-result : goal.invariant_of-result
+invariant_of-result c = record { above = search rules; lowest = gcd_one (nat_abs (to_z w32 (of_z w32 c.args.z))); low = search rules; fine = search rules }
 
 pub returns : goal.returns
 returns c = Q_path _ (whole_q c.args.z) (search rules) refl

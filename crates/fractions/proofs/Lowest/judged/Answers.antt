@@ -4,5 +4,5 @@ use Rattle.fractions.specs.Fractions.{lowest_q}
 use Rattle.fractions.proofs.Fitting.{fits_within}
 use Rattle.fractions.proofs.Lowest.judged.Goals as goal
 
-pub returns-then-self-le-PART-LIMIT : goal.returns-then-self-le-PART-LIMIT
-returns-then-self-le-PART-LIMIT c = (fits_within (lowest_q c.args.self) (search rules) (search rules), Q_path _ _ (search rules) refl)
+pub returns-then-self-le-PART_LIMIT : goal.returns-then-self-le-PART_LIMIT
+returns-then-self-le-PART_LIMIT c = (fits_within (lowest_q c.args.self) (search rules) (search rules), Q_path _ _ (search rules) refl)

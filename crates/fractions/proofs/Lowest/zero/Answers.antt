@@ -4,8 +4,8 @@ use Rattle.algebra.specs.Fraction.{zero_q, one_pos}
 use Rattle.algebra.proofs.FractionLaws.{Q_path}
 use Rattle.fractions.proofs.Lowest.zero.Goals as goal
 
-pub invariant-of-result : goal.invariant-of-result
-invariant-of-result c = (one_pos, (gcd_one 0, tt))
+pub invariant_of-result : goal.invariant_of-result
+invariant_of-result c = record { above = one_pos; lowest = gcd_one 0 }
 
 pub returns : goal.returns
 returns c = Q_path _ zero_q refl refl

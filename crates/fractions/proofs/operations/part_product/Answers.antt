@@ -8,8 +8,8 @@ part-requires c = search rules
 pub part-requires-2 : goal.part-requires-2
 part-requires-2 c = search rules
 
-pub overflow-mul-result : goal.overflow-mul-result
-overflow-mul-result c =
+pub overflow_mul-result : goal.overflow_mul-result
+overflow_mul-result c =
     let f : SFits w64 c.part.result = search rules in
     let g : SFits w64 c.part-2.result = search rules in
     parts_fit c.args.a c.args.g c.args.c c.args.h _ _ c.ranges.a c.ranges.c f g c.part.ensures.value c.part-2.ensures.value
