@@ -1,4 +1,7 @@
 // The text of a value, written into lent memory.
+
+#![tactic(auto)]
+
 ghost use Rattle.std.specs.Prelude.{◌≡◌, ℕ, ◌≤◌, List, length};
 ghost use Rattle.printing.specs.Printing.{printed, memory_after};
 

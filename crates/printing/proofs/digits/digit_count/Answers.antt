@@ -3,8 +3,8 @@ use Rattle.std.proofs.lemmas.Fmt.{decimal_digit, decimal_step, length-decimal-le
 use Rattle.std.proofs.lemmas.List.{length_push}
 use Rattle.printing.proofs.digits.digit_count.Goals as goal
 
-pub overflow-add-count : goal.overflow-add-count
-overflow-add-count c =
+pub overflow_add-count : goal.overflow_add-count
+overflow_add-count c =
     let small : length (decimal c.args.value) ≤ 10 = length-decimal-le 10 c.args.value (omega arith) (omega arith) (omega arith) in
     search rules
 

@@ -8,6 +8,6 @@ pub returns : goal.returns
 returns c = record {
   behind = omega arith;
   holds =
-      c.put-padded.ensures
-      ∙ ap (λ (l : List ℕ). over c.args.at l c.args.memory.now) (ap (λ (k : ℕ). padded k c.args.value) c.digit-count-count.ensures ∙ padded_decimal c.args.value (omega arith));
+      c.put_padded.ensures
+      ∙ ap (λ (l : List ℕ). over c.args.at l c.args.memory.now) (ap (λ (k : ℕ). padded k c.args.value) c.digit_count-count.ensures ∙ padded_decimal c.args.value (omega arith));
 }

@@ -10,12 +10,12 @@ use Rattle.printing.proofs.digits.put_signed.Goals as goal
 pub returns-then-value-lt0 : goal.returns-then-value-lt0
 returns-then-value-lt0 c =
     let same = to_z-of_z w32 c.args.value c.ranges.value in
-    let size : c.unsigned-abs-size.result ≡ nat_abs c.args.value = c.unsigned-abs-size.ensures.value ∙ ap nat_abs same in
+    let size : c.unsigned_abs-size.result ≡ nat_abs c.args.value = c.unsigned_abs-size.ensures.value ∙ ap nat_abs same in
     let m = c.args.memory.now in
-    let text : signed_decimal c.args.value ≡ 45 ∷ decimal c.unsigned-abs-size.result =
+    let text : signed_decimal c.args.value ≡ 45 ∷ decimal c.unsigned_abs-size.result =
     signed_below c.args.value (subst (λ (z : ℤ). lt_z z (pos 0) ≡ true) same c.if-value-lt0.true) ∙ ap (λ (n : ℕ). 45 ∷ decimal n) (sym size) in
-    let long : length (signed_decimal c.args.value) ≡ length (45 ∷ decimal c.unsigned-abs-size.result) = ap length text in
+    let long : length (signed_decimal c.args.value) ≡ length (45 ∷ decimal c.unsigned_abs-size.result) = ap length text in
     let room : c.args.at < length m = omega arith in
-    let pieces : over (c.args.at + 1) (decimal c.unsigned-abs-size.result) (set m c.args.at 45) ≡ over c.args.at (signed_decimal c.args.value) m =
-    over_after c.args.at 45 (decimal c.unsigned-abs-size.result) m room ∙ ap (λ (l : List ℕ). over c.args.at l m) (sym text) in
-    record { behind = omega arith; holds = c.put-decimal.ensures.holds ∙ pieces }
+    let pieces : over (c.args.at + 1) (decimal c.unsigned_abs-size.result) (set m c.args.at 45) ≡ over c.args.at (signed_decimal c.args.value) m =
+    over_after c.args.at 45 (decimal c.unsigned_abs-size.result) m room ∙ ap (λ (l : List ℕ). over c.args.at l m) (sym text) in
+    record { behind = omega arith; holds = c.put_decimal.ensures.holds ∙ pieces }

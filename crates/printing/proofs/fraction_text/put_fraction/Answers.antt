@@ -7,14 +7,14 @@ use Rattle.printing.specs.Texts.{under_text}
 use Rattle.printing.specs.Telling.{length-signed, length-under_text}
 use Rattle.printing.proofs.fraction_text.put_fraction.Goals as goal
 
-pub put-signed-at-requires : goal.put-signed-at-requires
-put-signed-at-requires c =
+pub put_signed-at-requires : goal.put_signed-at-requires
+put_signed-at-requires c =
     let f : SFits w32 c.numerator.result = search rules in
     let same = ap (λ (z : ℤ). length (signed_decimal z)) (to_z-of_z w32 c.numerator.result f ∙ c.numerator.ensures) in
     omega (arith, same, length-signed c.args.value.numerator c.args.value.low)
 
-pub put-under-requires : goal.put-under-requires
-put-under-requires c =
+pub put_under-requires : goal.put_under-requires
+put_under-requires c =
     let f : SFits w32 c.numerator.result = search rules in
     let same = ap (λ (z : ℤ). length (signed_decimal z)) (to_z-of_z w32 c.numerator.result f ∙ c.numerator.ensures) in
     let under = ap (λ (d : ℕ). length (under_text d)) c.denominator.ensures in
@@ -35,6 +35,6 @@ returns c =
     let under : under_text c.denominator.result ≡ back = ap under_text c.denominator.ensures in
     let under-long : length (under_text c.denominator.result) ≡ length back = ap length under in
     let pieces : over (0 + length front) back (over 0 front m) ≡ over 0 (front ++ back) m = over-over 0 front m (0 + length front) refl (omega arith) back in
-    let count : c.put-under.result ≡ length (front ++ back) = omega arith in
-    let whole : c.put-under.new.memory ≡ over 0 (front ++ back) m = cc in
+    let count : c.put_under.result ≡ length (front ++ back) = omega arith in
+    let whole : c.put_under.new.memory ≡ over 0 (front ++ back) m = cc in
     record { behind = count; holds = whole }

@@ -23,4 +23,4 @@ returns c =
     let room : c.args.at < length m = omega arith in
     let pieces : over (c.args.at + 1) (decimal c.args.denominator) (set m c.args.at 47) ≡ over c.args.at (under_text c.args.denominator) m =
     over_after c.args.at 47 (decimal c.args.denominator) m room ∙ ap (λ (l : List ℕ). over c.args.at l m) (sym text) in
-    record { behind = omega arith; holds = c.put-decimal.ensures.holds ∙ pieces }
+    record { behind = omega arith; holds = c.put_decimal.ensures.holds ∙ pieces }
