@@ -1,10 +1,12 @@
 // Counts with every pair of some numbers, many of them at the limits, in both kinds, and with every reciprocal of REST.
+
+#![tactic(auto)]
+
 use fractions::Fraction;
 use kinds::Kind;
 use kinds::refusal::{Reason, Refusal};
 use printing::Print;
 use remainders::Remainder;
-use std::fmt;
 use std::str::from_utf8;
 
 // Numerators and denominators.
@@ -46,29 +48,27 @@ fn lifted<K: Kind>(res: Result<K, Reason>) -> Result<K, Refusal> {
 }
 
 // Adds the text of a value, or the number of the refusal.
-fn show<K: Print>(out: &mut String, res: Result<K, Refusal>) -> fmt::Result {
+fn show<K: Print>(out: &mut String, res: Result<K, Refusal>) -> anyhow::Result<()> {
     let mut memory = [b' '; 22];
     let printed = match res {
         Ok(value) => value.print(&mut memory),
         Err(refusal) => Err(refusal),
     };
     match printed {
-        Ok(count) => match memory.get(0..count) {
-            Some(bytes) => match from_utf8(bytes) {
-                Ok(text) => write!(out, " {text}"),
-                Err(_) => Err(fmt::Error),
-            },
-            None => Err(fmt::Error),
-        },
+        Ok(count) => {
+            let text = from_utf8(&memory[0..count])?;
+            write!(out, " {text}")?;
+        }
         Err(refusal) => {
             let number = refusal.number();
-            write!(out, " refused:{number}")
+            write!(out, " refused:{number}")?;
         }
     }
+    Ok(())
 }
 
 // Adds all that two numbers give.
-fn pair<K: Print>(out: &mut String, a: K, b: K) -> fmt::Result {
+fn pair<K: Print>(out: &mut String, a: K, b: K) -> anyhow::Result<()> {
     show(out, Ok(a))?;
     show(out, Ok(b))?;
     write!(out, ":")?;
@@ -77,7 +77,8 @@ fn pair<K: Print>(out: &mut String, a: K, b: K) -> fmt::Result {
     show(out, lifted(a.product(b)))?;
     show(out, a.quotient(b))?;
     let (zero, alike, heavier) = (a.is_zero(), a.alike(b), a.heavier(b));
-    write!(out, " {zero} {alike} {heavier}\n")
+    write!(out, " {zero} {alike} {heavier}\n")?;
+    Ok(())
 }
 
 fn number<K: Kind>(of: (i32, i32)) -> Result<K, Refusal> {
@@ -85,13 +86,11 @@ fn number<K: Kind>(of: (i32, i32)) -> Result<K, Refusal> {
     top.quotient(whole(of.1)?)
 }
 
-fn table<K: Print>(out: &mut String) -> fmt::Result {
+fn table<K: Print>(out: &mut String) -> anyhow::Result<()> {
     let mark = K::mark_letters();
     let longest = K::longest_text();
-    match from_utf8(&mark) {
-        Ok(text) => write!(out, "{text} {longest}\n")?,
-        Err(_) => return Err(fmt::Error),
-    }
+    let text = from_utf8(&mark)?;
+    write!(out, "{text} {longest}\n")?;
     for left in NUMBERS {
         for right in NUMBERS {
             let a: Result<K, Refusal> = number(left);
@@ -117,7 +116,7 @@ fn gives_one(n: i32) -> Result<bool, Refusal> {
 }
 
 // Adds the reciprocal of every remainder, twenty to a line, and how many of them are right.
-fn reciprocals(out: &mut String) -> fmt::Result {
+fn reciprocals(out: &mut String) -> anyhow::Result<()> {
     let mut right: u32 = 0;
     for n in 0..9_973 {
         show(out, reciprocal(n))?;
@@ -128,7 +127,8 @@ fn reciprocals(out: &mut String) -> fmt::Result {
             write!(out, "\n")?;
         }
     }
-    write!(out, "\n{right}\n")
+    write!(out, "\n{right}\n")?;
+    Ok(())
 }
 
 fn main(rt: HostRuntime) -> anyhow::Result<()> {

@@ -1,5 +1,7 @@
 // Tests of the kinds of number, at every limit.
 
+#![tactic(auto)]
+
 #[cfg(test)]
 mod tests {
     use fractions::Fraction;

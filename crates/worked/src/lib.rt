@@ -1,4 +1,7 @@
 // Cases that were worked by hand.
+
+#![tactic(auto)]
+
 ghost use Rattle.std.specs.Prelude.{◌≡◌, length};
 ghost use Rattle.worked.specs.Worked.{Worked, cases};
 
