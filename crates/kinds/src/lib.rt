@@ -1,5 +1,7 @@
-#![tactic(auto)]
 // Kinds of number: the interface that everything above counts through. It knows no kind.
+
+#![tactic(auto)]
+
 ghost use Rattle.std.specs.Prelude.{◌≡◌, ℕ, true, ◌↔◌, List, ℤ, pos, ◌+ℤ◌, None, Option};
 ghost use Rattle.algebra.specs.Field.{Field, less, divided};
 ghost use Rattle.kinds.specs.declared.refusal.Reason.{Reason};

@@ -1,5 +1,6 @@
-#![tactic(auto)]
 // What every layer shares: the letters of the kinds of number, how many unknowns there may be, how large a number.
+
+#![tactic(auto)]
 
 // The letters by which the kinds of number are marked.
 pub const FRAC: &[u8; 4] = b"FRAC";

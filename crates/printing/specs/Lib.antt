@@ -1,4 +1,1 @@
 pub mod Printing
-pub mod Texts
-pub mod Telling
-pub mod Spelling

@@ -2,7 +2,7 @@
 ghost use Rattle.std.specs.Prelude.{◌≡◌, ◌+◌, ◌≤◌, length, decimal};
 ghost use Rattle.std.specs.Fmt.{signed_decimal};
 ghost use Rattle.memory.specs.Over.{over};
-ghost use Rattle.printing.specs.Texts.{padded};
+ghost use Rattle.texts.specs.Texts.{padded};
 
 /// How many digits a number has.
 fn digit_count(value: u32) -> usize

@@ -1,13 +1,11 @@
 // The text of a fraction.
-ghost use Rattle.std.specs.Prelude.{◌≡◌, ◌+◌, ◌≤◌, length, negsuc, refl};
+ghost use Rattle.std.specs.Prelude.{◌≡◌, ◌+◌, ◌≤◌, length, refl};
 ghost use Rattle.fractions.specs.Fractions.{exact_q};
 ghost use Rattle.fractions.specs.Terms.{longest_fraction};
 ghost use Rattle.memory.specs.Over.{over};
-ghost use Rattle.printing.specs.Texts.{under_text, fraction_text};
-ghost use Rattle.printing.specs.Telling.{same_fraction, length-fraction_text};
-ghost use native.Mathlib.Omega.{arith};
-ghost use Rattle.std.specs.Fmt as Written;
-ghost use Rattle.integers.specs.Divisors.{gcd};
+ghost use Rattle.texts.specs.Texts.{under_text, fraction_text};
+ghost use Rattle.texts.proofs.Telling.{same_fraction};
+ghost use Rattle.texts.proofs.Longest.{fraction_no_longer, fraction_as_long};
 
 use crate::Print;
 use crate::digits::{put_decimal, put_signed};
@@ -45,9 +43,9 @@ impl Print for Fraction {
 
     ghost tells = { λ a b e. same_fraction (exact_q a) a.low a.fine (exact_q b) b.low b.fine e };
 
-    ghost no_longer = { λ v. length-fraction_text (exact_q v) v.low v.fine };
+    ghost no_longer = { fraction_no_longer };
 
-    ghost as_long = { unfold Written.digits gcd in (record { numerator = negsuc 2147483646; denominator = 2147483646; above = omega arith; lowest = refl; low = omega arith; fine = omega arith }, refl) };
+    ghost as_long = { fraction_as_long };
 
     fn print(self, memory: &mut [u8]) -> Result<usize, Refusal> {
         if memory.len() < Self::LONGEST {

@@ -1,10 +1,8 @@
 // The text of a remainder.
-ghost use Rattle.printing.specs.Texts.{rest_text};
+ghost use Rattle.texts.specs.Texts.{rest_text};
 ghost use Rattle.std.specs.Prelude.{refl};
-ghost use Rattle.std.proofs.Common.{arith, rules};
-ghost use Rattle.remainders.specs.Remainders.{exact_r};
-ghost use Rattle.remainders.specs.RestValues.{exact_same};
-ghost use Rattle.printing.specs.Spelling.{same_from_padded, length-padded};
+ghost use Rattle.texts.proofs.Spelling.{same_rest};
+ghost use Rattle.texts.proofs.Longest.{rest_no_longer, rest_as_long};
 
 use crate::Print;
 use crate::digits::put_padded;
@@ -17,11 +15,11 @@ impl Print for Remainder {
 
     ghost by_exact = { (rest_text, λ v. refl) };
 
-    ghost tells = { λ a b e. exact_same a (exact_r b) (same_from_padded 4 a.value b.value (omega arith) (omega arith) e) };
+    ghost tells = { λ a b e. same_rest (Self.Kind.exact a) (Self.Kind.exact b) e };
 
-    ghost no_longer = { λ v. omega (arith, length-padded 4 v.value) };
+    ghost no_longer = { rest_no_longer };
 
-    ghost as_long = { Prim.search rules };
+    ghost as_long = { rest_as_long };
 
     fn print(self, memory: &mut [u8]) -> Result<usize, Refusal> {
         if memory.len() < Self::LONGEST {

@@ -1,5 +1,7 @@
-#![tactic(auto)]
 // REST: how remainders are stored, and counting with them by any modulus `by`.
+
+#![tactic(auto)]
+
 ghost use Rattle.std.specs.Prelude.{◌≡◌, ◌+◌, ◌-◌, ◌*◌, ◌%◌, ◌<◌, ◌≤◌};
 ghost use Rattle.integers.specs.Divisors.{gcd};
 ghost use Rattle.algebra.specs.Remainder.{whole_r};

@@ -15,7 +15,7 @@ use Rattle.remainders.specs.Moduli.{modulus}
 use Rattle.kinds.specs.Refusals.{reason_number}
 use Rattle.remainders.specs.Remainders.{rest_field, taken_r}
 use Rattle.listing.specs.Listing.{listing}
-use Rattle.printing.specs.Texts.{fraction_text, rest_text}
+use Rattle.texts.specs.Texts.{fraction_text, rest_text}
 
 pub data Case : Type 0 where
   -- a sheet, and its listing

@@ -1,7 +1,7 @@
 use Rattle.std.proofs.Common.{ℕ, List, ap, ◌∙◌, arith}
 use Rattle.memory.specs.Over.{over}
-use Rattle.printing.specs.Texts.{padded}
-use Rattle.printing.specs.Spelling.{padded_decimal}
+use Rattle.texts.specs.Texts.{padded}
+use Rattle.texts.proofs.Spelling.{padded_decimal}
 use Rattle.printing.proofs.digits.put_decimal.Goals as goal
 
 pub returns : goal.returns

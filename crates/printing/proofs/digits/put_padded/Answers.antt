@@ -1,8 +1,8 @@
 use Rattle.std.proofs.Common.{◌≡◌, ℕ, suc, ◌+◌, ◌-◌, ◌/◌, sym, ap, ◌∙◌, arith}
 use Rattle.memory.specs.Over.{over}
-use Rattle.printing.specs.Texts.{padded}
+use Rattle.texts.specs.Texts.{padded}
 use Rattle.memory.proofs.Pieces.{over_none, over_before}
-use Rattle.printing.specs.Spelling.{length-padded}
+use Rattle.texts.proofs.Spelling.{length-padded}
 use Rattle.printing.proofs.digits.put_padded.Goals as goal
 
 pub loop-left-preserved : goal.loop-left-preserved

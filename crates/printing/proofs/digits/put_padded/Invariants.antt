@@ -1,6 +1,6 @@
 use Rattle.std.proofs.Common.{◌≡◌, ◌≤◌}
 use Rattle.memory.specs.Over.{over}
-use Rattle.printing.specs.Texts.{padded}
+use Rattle.texts.specs.Texts.{padded}
 use Rattle.printing.proofs.digits.put_padded.Given as goal
 
 -- the digits that are left, written over what stands now, give all

@@ -4,7 +4,7 @@ use Rattle.std.proofs.lemmas.Int.{to_z-of_z}
 use Rattle.std.specs.Fmt.{signed_decimal}
 use Rattle.memory.specs.Over.{over}
 use Rattle.memory.proofs.Pieces.{over_after}
-use Rattle.printing.specs.Telling.{signed_below}
+use Rattle.texts.proofs.Telling.{signed_below}
 use Rattle.printing.proofs.digits.put_signed.Goals as goal
 
 pub returns-then-value-lt0 : goal.returns-then-value-lt0

@@ -3,8 +3,8 @@ use Rattle.std.proofs.lemmas.Int.{to_z-of_z}
 use Rattle.std.specs.Fmt.{signed_decimal}
 use Rattle.memory.specs.Over.{over}
 use Rattle.memory.proofs.Pieces.{over-over}
-use Rattle.printing.specs.Texts.{under_text}
-use Rattle.printing.specs.Telling.{length-signed, length-under_text}
+use Rattle.texts.specs.Texts.{under_text}
+use Rattle.texts.proofs.Telling.{length-signed, length-under_text}
 use Rattle.printing.proofs.fraction_text.put_fraction.Goals as goal
 
 pub put_signed-at-requires : goal.put_signed-at-requires

@@ -1,9 +1,9 @@
 use Rattle.std.proofs.Common.{◌≡◌, ℕ, ◌+◌, ◌<◌, List, [], ◌∷◌, length, set, decimal, sym, ap, ◌∙◌, arith}
 use Rattle.std.proofs.lemmas.Bool.{eq-eqb, ne_eqb}
 use Rattle.memory.specs.Over.{over}
-use Rattle.printing.specs.Texts.{under_text}
+use Rattle.texts.specs.Texts.{under_text}
 use Rattle.memory.proofs.Pieces.{over_none, over_after}
-use Rattle.printing.specs.Telling.{under_one, under_more}
+use Rattle.texts.proofs.Telling.{under_one, under_more}
 use Rattle.printing.proofs.fraction_text.put_under.Goals as goal
 
 pub returns-then-denominator-eq1 : goal.returns-then-denominator-eq1

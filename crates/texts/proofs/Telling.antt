@@ -10,7 +10,7 @@ use Rattle.std.specs.Fmt.{signed_decimal}
 use Rattle.algebra.specs.Fraction.{Q}
 use Rattle.algebra.proofs.FractionLaws.{Q_path}
 use Rattle.fractions.specs.Terms.{part_limit}
-use Rattle.printing.specs.Texts.{under_text, fraction_text}
+use Rattle.texts.specs.Texts.{under_text, fraction_text}
 
 abbrev Free : List ℕ → Type 0
 Free [] = Unit {0}

@@ -3,7 +3,10 @@ use Rattle.std.specs.Prelude.{◌≡◌, ℕ, zero, suc, ◌+◌, ◌/◌, ◌%�
 use Rattle.std.proofs.Common.{ap, ◌∙◌, pow-suc, arith}
 use Rattle.std.proofs.lemmas.Fmt.{decimal_by_steps}
 use Rattle.std.proofs.lemmas.List.{length_push, same_from_push}
-use Rattle.printing.specs.Texts.{padded}
+use Rattle.algebra.specs.Remainder.{Rem}
+use Rattle.algebra.proofs.RemainderLaws.{Rem_path}
+use Rattle.remainders.specs.Moduli.{modulus, rest_digits}
+use Rattle.texts.specs.Texts.{padded, rest_text}
 
 pub length-padded : (k n : ℕ) → length (padded k n) ≡ k
 length-padded zero n = refl
@@ -23,3 +26,7 @@ same_from_padded (suc k) m n below-m below-n e =
     let parts = same_from_push (padded k (m / 10)) (padded k (n / 10)) (48 + m % 10) (48 + n % 10) e in
     let fronts : m / 10 ≡ n / 10 = same_from_padded k (m / 10) (n / 10) (omega (arith, pow-suc 10 k)) (omega (arith, pow-suc 10 k)) parts.0 in
     omega (arith, parts.1)
+
+-- two remainders of one text are the same
+pub same_rest : (x y : Rem modulus) → rest_text x ≡ rest_text y → x ≡ y
+same_rest x y e = Rem_path x y (same_from_padded rest_digits x.value y.value (omega (arith, x.below)) (omega (arith, y.below)) e)
