@@ -4,8 +4,9 @@
     python3 tools/respell.py          once, at the top of a checkout that the port's script has turned
 
 Functions and fields are in snake case; a dash stands only between two names, as in length-sheet_bytes.
-It reads .antt and .rt files and must-fail edits, leaves what stands in double quotes, and refuses a new
-name that is in use already.
+It reads .antt and .rt files and must-fail edits and leaves what stands in double quotes. With --list it
+changes nothing and shows which new names are in use already (for a definition that may be the method it
+speaks of), and which names with a dash it leaves.
 """
 import glob
 import os
