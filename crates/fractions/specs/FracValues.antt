@@ -1,4 +1,6 @@
 -- Stored fractions are told apart by their parts, as what they stand for is. Assumes nothing.
+--     same_num, same_den   equal exact fractions have equal parts
+--     fraction_same        stored fractions with equal parts are the same
 use Rattle.std.specs.Prelude.{◌≡◌, ◌<◌, ◌≤◌, unsigned_abs}
 use Rattle.std.proofs.Common.{ap}
 use mathlib.Core.HLevel.{is_prop→PathP}

@@ -1,4 +1,4 @@
-// What every layer shares: the letters of the kinds of number, how many unknowns there may be, how large a number.
+// What the kinds of number share: their letters, how many unknowns there may be, how large a number.
 
 #![tactic(auto)]
 

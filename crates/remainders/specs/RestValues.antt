@@ -1,4 +1,6 @@
 -- Stored remainders are told apart by their numbers, as what they stand for is. Assumes nothing.
+--     exact_same, value_same   a stored remainder and an exact one are the same exactly when their numbers are
+--     stored_same              stored remainders with equal numbers are the same
 use Rattle.std.specs.Prelude.{◌≡◌, ◌<◌}
 use Rattle.std.proofs.Common.{ap}
 use mathlib.Core.HLevel.{is_prop→PathP}
