@@ -6,12 +6,13 @@ use Prim.Native.Nat.{◌∣◌}
 use native.Mathlib.Nat.{div-mul_cancel, dvd_antisymm, ℕ_set}
 use native.Mathlib.Bridge.{le_prop}
 use native.Mathlib.Decide.{ℕ_discrete}
+use Rattle.std.proofs.Math.Nat.{zero-lt-suc}
 use lib.IntN.{ℤ_discrete}
 use Rattle.integers.specs.Divisors.{gcd}
 use Rattle.integers.proofs.GcdLaws.{gcd_left, gcd_right, coprime_dvd}
 use Rattle.integers.proofs.Sizes.{unsigned_abs-*ℤ, quot_times, cancel}
 use Rattle.integers.proofs.RingInt.{ringℤ}
-use Rattle.algebra.specs.Fraction.{Q, normal, plus_q, times_q, minus_q, zero_q, one_q, one_pos, over_by, over_q}
+use Rattle.algebra.specs.Fraction.{Q, normal, plus_q, times_q, minus_q, zero_q, one_q, over_by, over_q}
 use Rattle.integers.proofs.Ring.{Expr.var, Expr.◌⊕◌, Expr.◌⊗◌, Expr.⊝, Expr.O, Expr.I, Eqn.◌⊜◌, combine, ring₂, ring₄, ring₆, v₀, v₁, v₂, v₃, v₄, v₅}
 
 pub Q_path : (p q : Q) → p.num ≡ q.num → p.den ≡ q.den → p ≡ q
@@ -153,7 +154,7 @@ pub plus_q_minus : (p : Q) → plus_q p (minus_q p) ≡ zero_q
 unfolding plus_q minus_q
 plus_q_minus p =
     as_normal (λ x. plus_q x (minus_q p)) p ∙ plus_normal _ _ _ _ _ _
-    ∙ normal_eq _ _ _ (pos 0) 1 one_pos (ring₂ ringℤ (λ a b. (a ⊗ b ⊕ (⊝ a) ⊗ b) ⊗ I ⊜ O ⊗ (b ⊗ b)) tt p.num (pos p.den)) ∙ normal_self zero_q
+    ∙ normal_eq _ _ _ (pos 0) 1 (zero-lt-suc 0) (ring₂ ringℤ (λ a b. (a ⊗ b ⊕ (⊝ a) ⊗ b) ⊗ I ⊜ O ⊗ (b ⊗ b)) tt p.num (pos p.den)) ∙ normal_self zero_q
 
 pub times_q_one : (p : Q) → times_q p one_q ≡ p
 unfolding times_q
@@ -169,9 +170,9 @@ times_q_over p n = as_normal (λ x. times_q x (over_q p)) p ∙ go p.num p.den p
     go : (z : ℤ) (d : ℕ) (h : 0 < d) → z ≢ pos 0 → times_q (normal z d h) (over_by z d h) ≡ one_q
     go (pos Nat.zero) d h n = absurd (n refl)
     go (pos (suc k)) d h n =
-        times_normal _ _ _ _ _ _ ∙ normal_eq _ _ _ (pos 1) 1 one_pos (ring₂ ringℤ (λ z d. (z ⊗ d) ⊗ I ⊜ I ⊗ (d ⊗ z)) tt (pos (suc k)) (pos d)) ∙ normal_self one_q
+        times_normal _ _ _ _ _ _ ∙ normal_eq _ _ _ (pos 1) 1 (zero-lt-suc 0) (ring₂ ringℤ (λ z d. (z ⊗ d) ⊗ I ⊜ I ⊗ (d ⊗ z)) tt (pos (suc k)) (pos d)) ∙ normal_self one_q
     go (negsuc k) d h n =
-        times_normal _ _ _ _ _ _ ∙ normal_eq _ _ _ (pos 1) 1 one_pos (ring₂ ringℤ (λ z d. (⊝ z ⊗ ⊝ d) ⊗ I ⊜ I ⊗ (d ⊗ z)) tt (pos (suc k)) (pos d)) ∙ normal_self one_q
+        times_normal _ _ _ _ _ _ ∙ normal_eq _ _ _ (pos 1) 1 (zero-lt-suc 0) (ring₂ ringℤ (λ z d. (⊝ z ⊗ ⊝ d) ⊗ I ⊜ I ⊗ (d ⊗ z)) tt (pos (suc k)) (pos d)) ∙ normal_self one_q
 
 pub one_q_zero : one_q ≢ zero_q
 one_q_zero e = let h : ◌≡◌ {A = ℕ} 1 0 = ap (λ (q : Q). nat_abs q.num) e in omega arith

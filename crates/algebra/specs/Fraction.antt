@@ -39,11 +39,8 @@ times_q p q = normal (p.num *ℤ q.num) (p.den * q.den) (mul-pos p.den_pos q.den
 unfoldable pub minus_q : Q → Q
 minus_q p = normal (neg_ℤ p.num) p.den p.den_pos
 
-pub one_pos : 0 < 1
-one_pos = zero-lt-suc 0
-
 abbrev pub whole_q : ℤ → Q
-whole_q z = record { num = z; den = 1; den_pos = one_pos; low = gcd_one (unsigned_abs z) }
+whole_q z = record { num = z; den = 1; den_pos = zero-lt-suc 0; low = gcd_one (unsigned_abs z) }
 
 abbrev pub zero_q : Q
 zero_q = whole_q (pos 0)
@@ -63,10 +60,7 @@ over_q p = over_by p.num p.den p.den_pos
 abbrev pub heavier_q : Q → Q → Bool
 heavier_q p q = nat_lt (unsigned_abs q.num * p.den) (unsigned_abs p.num * q.den)
 
-pub suc_pos : (d : ℕ) → 0 < suc d
-suc_pos d = zero-lt-suc d
-
 -- n / d as a fraction, and 0 where d is 0
 abbrev pub ratio : ℤ → ℕ → Q
 ratio n Nat.zero = zero_q
-ratio n (suc d) = normal n (suc d) (suc_pos d)
+ratio n (suc d) = normal n (suc d) (zero-lt-suc d)

@@ -3,7 +3,10 @@
 --     holds c            the definition gives it
 --     cases              all of them
 --     Worked             every one holds
-use Rattle.std.specs.Prelude.{◌≡◌, ℕ, Bool, true, false, ◌&&◌, List, [], ◌∷◌, ◌++◌, ℤ, pos, negsuc, Some, None, codes, Option, ◌==◌}
+use Rattle.std.specs.Prelude.{◌≡◌, ℕ, Bool, true, false, ◌&&◌, List, [], ◌∷◌, ◌++◌, map, ℤ, pos, negsuc, Some, None, codes, Option, ◌==◌}
+use Rattle.std.specs.List.{list_all}
+use Rattle.std.specs.Option.{is_none}
+use Rattle.std.specs.Ordering.{int_eq}
 use Rattle.std.specs.Str.{bytes_eq}
 use Rattle.algebra.specs.Field.{less, divided}
 use Rattle.algebra.specs.Fraction.{Q, ratio, plus_q, times_q}
@@ -15,6 +18,7 @@ use Rattle.remainders.specs.Moduli.{modulus}
 use Rattle.kinds.specs.Refusals.{reason_number}
 use Rattle.remainders.specs.Remainders.{rest_field, taken_r}
 use Rattle.listing.specs.Listing.{listing}
+use Rattle.listing.specs.Worked.{cases as sheets}
 use Rattle.texts.specs.Texts.{fraction_text, rest_text}
 
 pub data Case : Type 0 where
@@ -30,69 +34,21 @@ pub data Case : Type 0 where
   fraction_shown : Q → List ℕ → Case
   remainder_shown : Rem modulus → List ℕ → Case
 
-abbrev pub same_whole : ℤ → ℤ → Bool
-same_whole (pos m) (pos n) = m == n
-same_whole (pos m) (negsuc n) = false
-same_whole (negsuc m) (pos n) = false
-same_whole (negsuc m) (negsuc n) = m == n
-
 abbrev pub is_number : ℕ → Option Reason → Bool
 is_number n (Some reason) = reason_number reason == n
 is_number n None = false
 
-abbrev pub is_none : Option Reason → Bool
-is_none (Some reason) = false
-is_none None = true
-
 abbrev pub holds : Case → Bool
 holds (listed sheet text) = bytes_eq (listing sheet) text
-holds (fits q n d) = is_none (misfit_q q) && (same_whole q.num n && q.den == d)
+holds (fits q n d) = is_none (misfit_q q) && (int_eq q.num n && q.den == d)
 holds (refused q n) = is_number n (misfit_q q)
 holds (leaves r n) = r.value == n
 holds (fraction_shown q text) = bytes_eq (fraction_text q) text
 holds (remainder_shown r text) = bytes_eq (rest_text r) text
 
-abbrev pub all_hold : List Case → Bool
-all_hold [] = true
-all_hold (c ∷ cs) = holds c && all_hold cs
-
--- two unknowns, four lines, two forms
-abbrev pub two_rates : List ℕ
-two_rates =
-    codes "FRAC" ++ (2 ∷ 0 ∷ 4 ∷ 0 ∷ 2 ∷ 0 ∷ 16 ∷ 0 ∷ 64 ∷ 0 ∷ 80 ∷ 0 ∷ [])
-    ++ (2 ∷ 0 ∷ 0 ∷ 0 ∷ 255 ∷ 255 ∷ 255 ∷ 255 ∷ 3 ∷ 0 ∷ 0 ∷ 0 ∷ [])
-    ++ (4 ∷ 0 ∷ 0 ∷ 0 ∷ 254 ∷ 255 ∷ 255 ∷ 255 ∷ 6 ∷ 0 ∷ 0 ∷ 0 ∷ [])
-    ++ (4 ∷ 0 ∷ 0 ∷ 0 ∷ 254 ∷ 255 ∷ 255 ∷ 255 ∷ 7 ∷ 0 ∷ 0 ∷ 0 ∷ [])
-    ++ (1 ∷ 0 ∷ 0 ∷ 0 ∷ 1 ∷ 0 ∷ 0 ∷ 0 ∷ 1 ∷ 0 ∷ 0 ∷ 0 ∷ [])
-    ++ (1 ∷ 0 ∷ 0 ∷ 0 ∷ 0 ∷ 0 ∷ 0 ∷ 0 ∷ [])
-    ++ (1 ∷ 0 ∷ 0 ∷ 0 ∷ 254 ∷ 255 ∷ 255 ∷ 255 ∷ [])
-
--- -3 r1 + r2 = -5, 0 = 7, and the form 0
-abbrev pub signs : List ℕ
-signs =
-    codes "REST" ++ (2 ∷ 0 ∷ 2 ∷ 0 ∷ 1 ∷ 0 ∷ 16 ∷ 0 ∷ 40 ∷ 0 ∷ 48 ∷ 0 ∷ [])
-    ++ (253 ∷ 255 ∷ 255 ∷ 255 ∷ 1 ∷ 0 ∷ 0 ∷ 0 ∷ 251 ∷ 255 ∷ 255 ∷ 255 ∷ [])
-    ++ (0 ∷ 0 ∷ 0 ∷ 0 ∷ 0 ∷ 0 ∷ 0 ∷ 0 ∷ 7 ∷ 0 ∷ 0 ∷ 0 ∷ [])
-    ++ (0 ∷ 0 ∷ 0 ∷ 0 ∷ 0 ∷ 0 ∷ 0 ∷ 0 ∷ [])
-
--- one unknown, and its only form has the coefficient x, of four bytes
-abbrev pub one_form : List ℕ → List ℕ
-one_form x = codes "FRAC" ++ (1 ∷ 0 ∷ 0 ∷ 0 ∷ 1 ∷ 0 ∷ 16 ∷ 0 ∷ 16 ∷ 0 ∷ 20 ∷ 0 ∷ []) ++ x
-
+-- the sheets that were worked by hand with the listing, where they stand
 abbrev pub listings : List Case
-listings =
-    listed two_rates (codes "FRAC 2 4 2\nline 1: 2 r1 - r2 = 3\nline 2: 4 r1 - 2 r2 = 6\nline 3: 4 r1 - 2 r2 = 7\nline 4: r1 + r2 = 1\nform 1: r1\nform 2: r1 - 2 r2\n")
-    ∷ listed signs (codes "REST 2 2 1\nline 1: -3 r1 + r2 = -5\nline 2: 0 = 7\nform 1: 0\n")
-    ∷ listed [] (codes "refused 1 byte 0\n")
-    ∷ listed (codes "FRAK" ++ codes "0123456789ab") (codes "refused 2 byte 0\n")
-    ∷ listed (codes "FRAC" ++ (13 ∷ 0 ∷ 0 ∷ 0 ∷ 0 ∷ 0 ∷ 16 ∷ 0 ∷ 16 ∷ 0 ∷ 16 ∷ 0 ∷ [])) (codes "refused 3 byte 4\n")
-    ∷ listed (codes "REST" ++ (12 ∷ 0 ∷ 0 ∷ 0 ∷ 0 ∷ 0 ∷ 16 ∷ 0 ∷ 16 ∷ 0 ∷ 16 ∷ 0 ∷ [])) (codes "REST 12 0 0\n")
-    ∷ listed (codes "REST" ++ (12 ∷ 0 ∷ 0 ∷ 0 ∷ 0 ∷ 0 ∷ 16 ∷ 0 ∷ 16 ∷ 0 ∷ 17 ∷ 0 ∷ [])) (codes "refused 4 byte 14\n")
-    ∷ listed (one_form (64 ∷ 66 ∷ 15 ∷ 0 ∷ [])) (codes "FRAC 1 0 1\nform 1: 1000000 r1\n")
-    ∷ listed (one_form (65 ∷ 66 ∷ 15 ∷ 0 ∷ [])) (codes "refused 7 byte 16\n")
-    ∷ listed (one_form (192 ∷ 189 ∷ 240 ∷ 255 ∷ [])) (codes "FRAC 1 0 1\nform 1: -1000000 r1\n")
-    ∷ listed (one_form (191 ∷ 189 ∷ 240 ∷ 255 ∷ [])) (codes "refused 7 byte 16\n")
-    ∷ []
+listings = map (λ c. listed c.0 c.1) sheets
 
 abbrev pub fractions : List Case
 fractions =
@@ -136,4 +92,4 @@ abbrev pub cases : List Case
 cases = listings ++ (fractions ++ (remainders ++ texts))
 
 abbrev pub Worked : Type 0
-Worked = all_hold cases ≡ true
+Worked = list_all holds cases ≡ true

@@ -1,9 +1,13 @@
-// Cases that were worked by hand.
+// Cases that were worked by hand, and what the crates below state each for itself and agree on.
 
 #![tactic(auto)]
 
 ghost use Rattle.std.specs.Prelude.{◌≡◌, length};
+ghost use Rattle.limits.specs.Limits.{most_unknowns, coefficient_limit, right_side_limit};
 ghost use Rattle.worked.specs.Worked.{Worked, cases};
+ghost use Rattle.worked.specs.Agreed.{Agreed};
+
+use limits::{COEFFICIENT_LIMIT, MOST_UNKNOWNS, RIGHT_SIDE_LIMIT};
 
 /// How many cases were worked by hand. Its contract says that the definitions give, in each of them, what they should.
 pub fn worked_cases() -> usize
@@ -11,4 +15,13 @@ pub fn worked_cases() -> usize
     ensures count { result ≡ length cases }
 {
     37
+}
+
+/// How many unknowns there may be, and how far from zero a coefficient and a right side may lie. Its contract says that the
+/// sheet and the kinds of number, which have these each of their own, agree on them, on the marks, and on what writing leaves.
+pub fn shared_limits() -> (usize, u32, u32)
+    ensures agreed { Agreed }
+    ensures value { result ≡ (most_unknowns, coefficient_limit, right_side_limit) }
+{
+    (MOST_UNKNOWNS, COEFFICIENT_LIMIT, RIGHT_SIDE_LIMIT)
 }
