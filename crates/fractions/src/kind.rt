@@ -1,4 +1,5 @@
 // FRAC: exact fractions as a kind of number.
+ghost use Rattle.std.specs.Prelude.{◌≡◌};
 ghost use Rattle.limits.specs.Limits.{frac_letters};
 ghost use Rattle.algebra.specs.Fraction.{Q, whole_q};
 ghost use Rattle.algebra.proofs.FractionField.{field_q, whole_q_plus};
@@ -10,7 +11,20 @@ ghost use Rattle.std.proofs.Common.{rules};
 use crate::Fraction;
 use kinds::Kind;
 use kinds::refusal::{Reason, Refusal};
-use limits::{FRAC, RIGHT_SIDE_LIMIT};
+use kinds::whole::Whole;
+use limits::FRAC;
+
+/// z/1
+impl From<Whole> for Fraction {
+    ghost from_gives = { λ w r. exact_q r ≡ whole_q w.number };
+
+    fn from(whole: Whole) -> Fraction {
+        Fraction {
+            numerator: whole.number,
+            denominator: 1,
+        }
+    }
+}
 
 impl Kind for Fraction {
     ghost Exact = { Q };
@@ -23,13 +37,15 @@ impl Kind for Fraction {
 
     ghost taken = { whole_q };
 
-    ghost letters = { frac_letters };
-
-    ghost longest = { longest_fraction };
-
     const MARK: [u8; 4] = [FRAC[0], FRAC[1], FRAC[2], FRAC[3]];
 
+    ghost MARK = { frac_letters };
+
     const LONGEST: usize = 22;
+
+    ghost LONGEST = { longest_fraction };
+
+    ghost from_whole = { λ w v e. e };
 
     ghost taken_zero = { Prim.search rules };
 
@@ -42,21 +58,6 @@ impl Kind for Fraction {
     ghost stored_fits = { Prim.search rules };
 
     ghost one_form = { λ a b e. fraction_same a b (same_num (exact_q a) (exact_q b) e) (same_den (exact_q a) (exact_q b) e) };
-
-    fn mark_letters() -> [u8; 4] {
-        Self::MARK
-    }
-
-    fn longest_text() -> usize {
-        Self::LONGEST
-    }
-
-    fn take(whole: i32) -> Result<Fraction, Refusal> {
-        if whole.unsigned_abs() > RIGHT_SIDE_LIMIT {
-            return Err(Refusal::Number { position: 1 });
-        }
-        Ok(Fraction::whole(whole))
-    }
 
     fn sum(self, other: Fraction) -> Result<Fraction, Reason> {
         self.plus(other).judged()

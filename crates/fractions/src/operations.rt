@@ -3,7 +3,7 @@ ghost use Rattle.std.specs.Prelude.{◌≡◌, ◌/◌, ◌<◌, ◌≤◌, true
 ghost use Rattle.fractions.specs.Terms.{part_limit};
 ghost use Rattle.integers.specs.Divisors.{gcd as greatest};
 ghost use Rattle.integers.specs.Signs.{quot, with_sign, none};
-ghost use Rattle.algebra.specs.Fraction.{zero_q, whole_q, plus_q, times_q, minus_q, over_q};
+ghost use Rattle.algebra.specs.Fraction.{zero_q, plus_q, times_q, minus_q, over_q};
 ghost use Rattle.fractions.specs.Fractions.{exact_q, lowest_q, misfit_q};
 ghost use Rattle.kinds.specs.Kinds.{Answers};
 
@@ -41,17 +41,6 @@ impl Lowest {
 }
 
 impl Fraction {
-    /// z/1
-    pub(crate) fn whole(z: i32) -> Fraction
-        requires { unsigned_abs z ≤ part_limit }
-        ensures { exact_q result ≡ whole_q z }
-    {
-        Fraction {
-            numerator: z,
-            denominator: 1,
-        }
-    }
-
     pub(crate) fn stands_for_zero(self) -> bool
         ensures zero { (result ≡ true) ↔ (exact_q self ≡ zero_q) }
         ensures test { result ≡ none self.numerator }

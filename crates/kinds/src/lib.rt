@@ -6,13 +6,16 @@ ghost use Rattle.std.specs.Prelude.{◌≡◌, ℕ, true, ◌↔◌, List, ℤ, 
 ghost use Rattle.algebra.specs.Field.{Field, less, divided};
 ghost use Rattle.kinds.specs.declared.refusal.Reason.{Reason};
 ghost use Rattle.kinds.specs.Kinds.{Answers, AnswersQuotient, Takes, in_reach};
+ghost use Rattle.kinds.specs.declared.whole.Whole.{Whole};
 
 use crate::refusal::{Reason, Refusal};
+use crate::whole::Whole;
 
 pub mod refusal;
+pub mod whole;
 
 /// A kind of number. Its exact values are a field with a weight; a stored value stands for one that fits.
-pub trait Kind: Copy {
+pub trait Kind: Copy + From<Whole> {
     /// The exact values, whether they fit or not.
     ghost Exact: { Type 0 };
 
@@ -28,26 +31,22 @@ pub trait Kind: Copy {
     /// What a whole number stands for.
     ghost taken: { ℤ → Exact };
 
-    /// The letters by which the kind is marked, and how many bytes its longest text has.
-    ghost letters: { List ℕ };
-
-    ghost longest: { ℕ };
-
+    /// The letters by which the kind is marked.
     const MARK: [u8; 4];
 
+    ghost MARK: { List ℕ };
+
+    /// How many bytes its longest text has.
     const LONGEST: usize;
 
-    /// `MARK`, for code that is generic.
-    fn mark_letters() -> [u8; 4]
-        ensures { result ≡ letters };
-
-    /// `LONGEST`, for code that is generic.
-    fn longest_text() -> usize
-        ensures { result ≡ longest };
+    ghost LONGEST: { ℕ };
 
     /// A whole number as a value.
     fn take(whole: i32) -> Result<Self, Refusal>
-        ensures { Takes exact taken whole result };
+        ensures { Takes exact taken whole result }
+    {
+        Ok(Self::from(Whole::try_from(whole)?))
+    }
 
     fn sum(self, other: Self) -> Result<Self, Reason>
         ensures { Answers exact misfit (field.plus (exact self) (exact other)) result };
@@ -69,6 +68,9 @@ pub trait Kind: Copy {
 
     fn heavier(self, other: Self) -> bool
         ensures { result ≡ field.heavier (exact self) (exact other) };
+
+    /// A whole number in reach is taken as what it stands for.
+    ghost from_whole: { (w : Whole) (v : Self) → Self.From.from_gives w v → exact v ≡ taken w.number };
 
     ghost taken_zero: { taken (pos 0) ≡ field.zero };
 
