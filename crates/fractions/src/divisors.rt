@@ -7,10 +7,7 @@ pub(crate) fn gcd(a: u32, b: u32) -> u32
     ensures value { result ≡ greatest a b }
     ensures meaning { Greatest a b result }
 {
-    if a == 1 {
-        return 1;
-    }
-    if b == 1 {
+    if a == 1 || b == 1 {
         return 1;
     }
     let mut last = a;

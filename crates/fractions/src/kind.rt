@@ -60,30 +60,30 @@ impl Kind for Fraction {
     ghost one_form = { λ a b e. fraction_same a b (same_num (exact_q a) (exact_q b) e) (same_den (exact_q a) (exact_q b) e) };
 
     fn sum(self, other: Fraction) -> Result<Fraction, Reason> {
-        self.plus(other).judged()
+        Fraction::try_from(self.plus(other))
     }
 
     fn difference(self, other: Fraction) -> Result<Fraction, Reason> {
-        self.plus(other.negative()).judged()
+        Fraction::try_from(self.plus(other.negative()))
     }
 
     fn product(self, other: Fraction) -> Result<Fraction, Reason> {
-        self.times(other).judged()
+        Fraction::try_from(self.times(other))
     }
 
     fn quotient(self, divisor: Fraction) -> Result<Fraction, Refusal> {
-        if divisor.stands_for_zero() {
+        if divisor.is_zero() {
             return Err(Refusal::ZeroDivisor);
         }
-        Ok(self.times(divisor.reciprocal()).judged()?)
+        Ok(Fraction::try_from(self.times(divisor.reciprocal()))?)
     }
 
     fn is_zero(self) -> bool {
-        self.stands_for_zero()
+        self.numerator == 0
     }
 
     fn alike(self, other: Fraction) -> bool {
-        self.stands_for_same(other)
+        self == other
     }
 
     /// |a|/b > |c|/d exactly when |a| d > |c| b.

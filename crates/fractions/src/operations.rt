@@ -1,5 +1,5 @@
 // Sums and products of fractions, reduced as they are made, so that no number is wider than a word's square.
-ghost use Rattle.std.specs.Prelude.{◌≡◌, ◌/◌, ◌<◌, ◌≤◌, true, false, ◌↔◌, pos, ◌+ℤ◌, ◌*ℤ◌, unsigned_abs};
+ghost use Rattle.std.specs.Prelude.{◌≡◌, ◌≢◌, ◌/◌, ◌<◌, ◌≤◌, pos, ◌+ℤ◌, ◌*ℤ◌, unsigned_abs};
 ghost use Rattle.fractions.specs.Terms.{part_limit};
 ghost use Rattle.integers.specs.Divisors.{gcd as greatest};
 ghost use Rattle.integers.specs.Signs.{quot, with_sign, none};
@@ -24,15 +24,19 @@ impl Lowest {
             denominator: 1,
         }
     }
+}
 
-    /// The fraction as it is stored, if it fits.
-    pub(crate) fn judged(self) -> Result<Fraction, Reason>
-        ensures { Answers exact_q misfit_q (lowest_q self) result }
-    {
-        if self.numerator.unsigned_abs() <= PART_LIMIT && self.denominator <= PART_LIMIT {
+/// The fraction as it is stored, if it fits.
+impl TryFrom<Lowest> for Fraction {
+    type Error = Reason;
+
+    ghost try_from_gives = { λ w r. Answers exact_q misfit_q (lowest_q w) r };
+
+    fn try_from(lowest: Lowest) -> Result<Fraction, Reason> {
+        if lowest.numerator.unsigned_abs() <= PART_LIMIT && lowest.denominator <= PART_LIMIT {
             Ok(Fraction {
-                numerator: self.numerator as i32,
-                denominator: self.denominator as u32,
+                numerator: lowest.numerator as i32,
+                denominator: lowest.denominator as u32,
             })
         } else {
             Err(Reason::TooLarge)
@@ -41,19 +45,6 @@ impl Lowest {
 }
 
 impl Fraction {
-    pub(crate) fn stands_for_zero(self) -> bool
-        ensures zero { (result ≡ true) ↔ (exact_q self ≡ zero_q) }
-        ensures test { result ≡ none self.numerator }
-    {
-        self.numerator == 0
-    }
-
-    pub(crate) fn stands_for_same(self, other: Fraction) -> bool
-        ensures { (result ≡ true) ↔ (exact_q self ≡ exact_q other) }
-    {
-        self.numerator == other.numerator && self.denominator == other.denominator
-    }
-
     /// -a/b
     pub(crate) fn negative(self) -> Fraction
         ensures { exact_q result ≡ minus_q (exact_q self) }
@@ -66,7 +57,7 @@ impl Fraction {
 
     /// b/a, where a is not zero
     pub(crate) fn reciprocal(self) -> Fraction
-        requires { none self.numerator ≡ false }
+        requires { exact_q self ≢ zero_q }
         ensures { exact_q result ≡ over_q (exact_q self) }
     {
         Fraction {
@@ -126,10 +117,7 @@ impl Fraction {
     pub(crate) fn times(self, other: Fraction) -> Lowest
         ensures { lowest_q result ≡ times_q (exact_q self) (exact_q other) }
     {
-        if self.numerator == 0 {
-            return Lowest::zero();
-        }
-        if other.numerator == 0 {
+        if self.numerator == 0 || other.numerator == 0 {
             return Lowest::zero();
         }
         self.times_crosswise(other)
