@@ -4,7 +4,7 @@
 
 use fractions::Fraction;
 use kinds::Kind;
-use kinds::refusal::{Reason, Refusal};
+use kinds::refusal::Refusal;
 use printing::Print;
 use remainders::Remainder;
 use std::str::from_utf8;
@@ -43,18 +43,10 @@ fn whole<K: Kind>(z: i32) -> Result<K, Refusal> {
     Ok(part.sum(part)?.sum(rest)?)
 }
 
-fn lifted<K: Kind>(res: Result<K, Reason>) -> Result<K, Refusal> {
-    Ok(res?)
-}
-
 // Adds the text of a value, or the number of the refusal.
 fn show<K: Print>(out: &mut String, res: Result<K, Refusal>) -> anyhow::Result<()> {
     let mut memory = [b' '; 22];
-    let printed = match res {
-        Ok(value) => value.print(&mut memory),
-        Err(refusal) => Err(refusal),
-    };
-    match printed {
+    match res.and_then(|value| value.print(&mut memory)) {
         Ok(count) => {
             let text = from_utf8(&memory[0..count])?;
             write!(out, " {text}")?;
@@ -72,9 +64,9 @@ fn pair<K: Print>(out: &mut String, a: K, b: K) -> anyhow::Result<()> {
     show(out, Ok(a))?;
     show(out, Ok(b))?;
     write!(out, ":")?;
-    show(out, lifted(a.sum(b)))?;
-    show(out, lifted(a.difference(b)))?;
-    show(out, lifted(a.product(b)))?;
+    show(out, a.sum(b).map_err(Refusal::from))?;
+    show(out, a.difference(b).map_err(Refusal::from))?;
+    show(out, a.product(b).map_err(Refusal::from))?;
     show(out, a.quotient(b))?;
     let (zero, alike, heavier) = (a.is_zero(), a.alike(b), a.heavier(b));
     write!(out, " {zero} {alike} {heavier}\n")?;
@@ -87,8 +79,8 @@ fn number<K: Kind>(of: (i32, i32)) -> Result<K, Refusal> {
 }
 
 fn table<K: Print>(out: &mut String) -> anyhow::Result<()> {
-    let mark = K::mark_letters();
-    let longest = K::longest_text();
+    let mark = K::MARK;
+    let longest = K::LONGEST;
     let text = from_utf8(&mark)?;
     write!(out, "{text} {longest}\n")?;
     for left in NUMBERS {
@@ -111,22 +103,21 @@ fn reciprocal(n: i32) -> Result<Remainder, Refusal> {
 
 // Whether a number times its reciprocal is one.
 fn gives_one(n: i32) -> Result<bool, Refusal> {
-    let product = lifted(Remainder::take(n)?.product(reciprocal(n)?))?;
+    let product = Remainder::take(n)?.product(reciprocal(n)?)?;
     Ok(product.alike(Remainder::take(1)?))
 }
 
 // Adds the reciprocal of every remainder, twenty to a line, and how many of them are right.
 fn reciprocals(out: &mut String) -> anyhow::Result<()> {
-    let mut right: u32 = 0;
     for n in 0..9_973 {
         show(out, reciprocal(n))?;
-        if gives_one(n).unwrap_or(false) {
-            right = right.saturating_add(1);
-        }
         if n % 20 == 19 {
             write!(out, "\n")?;
         }
     }
+    let right = (0..9_973)
+        .filter(|&n| gives_one(n).unwrap_or(false))
+        .count();
     write!(out, "\n{right}\n")?;
     Ok(())
 }

@@ -48,7 +48,10 @@ mod tests {
     }
 
     // The result is n / d.
-    fn is(rt: &impl Abort, res: Result<Fraction, Reason>, n: i32, d: i32) -> Result<(), Fail> {
+    fn is<E>(rt: &impl Abort, res: Result<Fraction, E>, n: i32, d: i32) -> Result<(), Fail>
+    where
+        Fail: From<E>,
+    {
         assert_eq!(rt; res?, fraction(n, d)?);
         Ok(())
     }
@@ -147,22 +150,11 @@ mod tests {
         Ok(())
     }
 
-    // A quotient that has to be n / d.
-    fn divides(
-        rt: &impl Abort,
-        res: Result<Fraction, Refusal>,
-        n: i32,
-        d: i32,
-    ) -> Result<(), Fail> {
-        assert_eq!(rt; res?, fraction(n, d)?);
-        Ok(())
-    }
-
     #[test]
     fn quotients_at_the_limits(rt: HostRuntime) -> Result<(), Fail> {
         let large = Err(Refusal::Misfit(Reason::TooLarge));
-        divides(&rt, fraction(MOST, 2)?.quotient(fraction(1, 2)?), MOST, 1)?;
-        divides(&rt, fraction(-MOST, 2)?.quotient(fraction(1, 2)?), -MOST, 1)?;
+        is(&rt, fraction(MOST, 2)?.quotient(fraction(1, 2)?), MOST, 1)?;
+        is(&rt, fraction(-MOST, 2)?.quotient(fraction(1, 2)?), -MOST, 1)?;
         assert_eq!(rt; fraction(65_536, 1)?.quotient(fraction(1, 32_768)?), large);
         assert_eq!(rt; fraction(-65_536, 1)?.quotient(fraction(1, 32_768)?), large);
         assert_eq!(rt; fraction(1, 32_768)?.quotient(fraction(65_536, 1)?), large);
@@ -177,10 +169,10 @@ mod tests {
             fraction(MOST, 1)?.quotient(zero),
             Err(Refusal::ZeroDivisor)
         );
-        divides(&rt, zero.quotient(fraction(-MOST, 1)?), 0, 1)?;
-        divides(&rt, fraction(1, 1)?.quotient(fraction(-MOST, 1)?), -1, MOST)?;
-        divides(&rt, fraction(1, 1)?.quotient(fraction(1, MOST)?), MOST, 1)?;
-        divides(&rt, fraction(-MOST, 2)?.quotient(fraction(-MOST, 2)?), 1, 1)?;
+        is(&rt, zero.quotient(fraction(-MOST, 1)?), 0, 1)?;
+        is(&rt, fraction(1, 1)?.quotient(fraction(-MOST, 1)?), -1, MOST)?;
+        is(&rt, fraction(1, 1)?.quotient(fraction(1, MOST)?), MOST, 1)?;
+        is(&rt, fraction(-MOST, 2)?.quotient(fraction(-MOST, 2)?), 1, 1)?;
         assert_eq!(rt;
             fraction(1, 2)?.quotient(fraction(MOST, 1)?),
             Err(Refusal::Misfit(Reason::TooLarge))

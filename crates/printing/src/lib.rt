@@ -20,8 +20,8 @@ pub trait Print: Kind {
     /// Writes the text at the start of the memory and answers how many bytes it has. Memory of fewer than `LONGEST` bytes is
     /// refused and left as it was.
     fn print(self, memory: &mut [u8]) -> Result<usize, Refusal>
-        ensures answer { result ≡ printed Self.Kind.longest (text self) memory.old }
-        ensures holds { memory.new ≡ memory_after Self.Kind.longest (text self) memory.old };
+        ensures answer { result ≡ printed Self.Kind.LONGEST (text self) memory.old }
+        ensures holds { memory.new ≡ memory_after Self.Kind.LONGEST (text self) memory.old };
 
     /// It goes by the exact value alone, ..
     ghost by_exact: { (f : Self.Kind.Exact → List ℕ) × ((v : Self) → text v ≡ f (Self.Kind.exact v)) };
@@ -30,7 +30,7 @@ pub trait Print: Kind {
     ghost tells: { (a b : Self) → text a ≡ text b → Self.Kind.exact a ≡ Self.Kind.exact b };
 
     /// No text is longer than the longest, and one is as long.
-    ghost no_longer: { (v : Self) → length (text v) ≤ Self.Kind.longest };
+    ghost no_longer: { (v : Self) → length (text v) ≤ Self.Kind.LONGEST };
 
-    ghost as_long: { (v : Self) × (length (text v) ≡ Self.Kind.longest) };
+    ghost as_long: { (v : Self) × (length (text v) ≡ Self.Kind.LONGEST) };
 }
