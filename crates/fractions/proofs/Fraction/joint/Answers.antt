@@ -2,16 +2,6 @@ use Rattle.std.proofs.Common.{◌<◌, ℤ, nat_abs, sym, subst, arith, w32, SFi
 use Rattle.fractions.proofs.Wide.{size_fits, both_size, sum_kept, sum_fits, term_size, wide_term}
 use Rattle.fractions.proofs.Fraction.joint.Goals as goal
 
-pub overflow_mul-result : goal.overflow_mul-result
-overflow_mul-result c =
-    let f : SFits w32 c.args.self.numerator = search rules in
-    size_fits (wide_term c.args.self.numerator c.args.x) (let s = term_size c.args.self.numerator c.args.x f c.args.self.low c.requires.x in omega arith)
-
-pub overflow_mul-result-2 : goal.overflow_mul-result-2
-overflow_mul-result-2 c =
-    let f : SFits w32 c.args.other.numerator = search rules in
-    size_fits (wide_term c.args.other.numerator c.args.y) (let s = term_size c.args.other.numerator c.args.y f c.args.other.low c.requires.y in omega arith)
-
 pub overflow_add-result : goal.overflow_add-result
 overflow_add-result c =
     let f : SFits w32 c.args.self.numerator = search rules in

@@ -8,18 +8,6 @@ use Rattle.fractions.specs.Fractions.{exact_q}
 use Rattle.fractions.proofs.Made.{product_above, product_low, product_is}
 use Rattle.fractions.proofs.Fraction.times_crosswise.Goals as goal
 
-pub part_product-requires : goal.part_product-requires
-part_product-requires c = record {
-  left = divisor_pos c.gcd-g.result c.unsigned_abs.result c.args.other.denominator c.gcd-g.ensures.value c.args.other.above;
-  right = divisor_pos c.gcd-h.result c.unsigned_abs-2.result c.args.self.denominator c.gcd-h.ensures.value c.args.self.above;
-}
-
-pub share-requires : goal.share-requires
-share-requires c = divisor_pos c.gcd-h.result c.unsigned_abs-2.result c.args.self.denominator c.gcd-h.ensures.value c.args.self.above
-
-pub share-requires-2 : goal.share-requires-2
-share-requires-2 c = divisor_pos c.gcd-g.result c.unsigned_abs.result c.args.other.denominator c.gcd-g.ensures.value c.args.other.above
-
 pub invariant_of-result : goal.invariant_of-result
 invariant_of-result c =
     let a : SFits w32 c.args.self.numerator = search rules in

@@ -2,12 +2,6 @@ use Rattle.std.proofs.Common.{w64, SFits, rules}
 use Rattle.fractions.proofs.Wide.{parts_fit, parts_kept}
 use Rattle.fractions.proofs.operations.part_product.Goals as goal
 
-pub part-requires : goal.part-requires
-part-requires c = search rules
-
-pub part-requires-2 : goal.part-requires-2
-part-requires-2 c = search rules
-
 pub overflow_mul-result : goal.overflow_mul-result
 overflow_mul-result c =
     let f : SFits w64 c.part.result = search rules in
