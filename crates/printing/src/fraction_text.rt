@@ -1,40 +1,13 @@
 // The text of a fraction.
-ghost use Rattle.std.specs.Prelude.{◌≡◌, ◌+◌, ◌≤◌, length, refl};
+ghost use Rattle.std.specs.Prelude.{refl};
 ghost use Rattle.fractions.specs.Fractions.{exact_q};
-ghost use Rattle.fractions.specs.Terms.{longest_fraction};
-ghost use Rattle.memory.specs.Over.{over};
-ghost use Rattle.texts.specs.Texts.{under_text, fraction_text};
+ghost use Rattle.texts.specs.Texts.{fraction_text};
 ghost use Rattle.texts.proofs.Telling.{same_fraction};
 ghost use Rattle.texts.proofs.Longest.{fraction_no_longer, fraction_as_long};
 
-use crate::Print;
-use crate::digits::{put_decimal, put_signed};
+use crate::{Print, Text};
 use fractions::Fraction;
-use kinds::Kind;
-use kinds::refusal::Refusal;
-
-/// Writes what stands behind a numerator, from the byte `at` on, and answers the place behind it.
-fn put_under(memory: &mut [u8], at: usize, denominator: u32) -> usize
-    requires { at + length (under_text denominator) ≤ length memory.old }
-    ensures behind { result ≡ at + length (under_text denominator) }
-    ensures holds { memory.new ≡ over at (under_text denominator) memory.old }
-{
-    if denominator == 1 {
-        return at;
-    }
-    memory[at] = b'/';
-    put_decimal(memory, at + 1, denominator)
-}
-
-/// Writes a fraction at the start of the memory, and answers how many bytes it has.
-fn put_fraction(memory: &mut [u8], value: Fraction) -> usize
-    requires { longest_fraction ≤ length memory.old }
-    ensures behind { result ≡ length (fraction_text (exact_q value)) }
-    ensures holds { memory.new ≡ over 0 (fraction_text (exact_q value)) memory.old }
-{
-    let at = put_signed(memory, 0, value.numerator());
-    put_under(memory, at, value.denominator())
-}
+use itoa::Buffer;
 
 impl Print for Fraction {
     ghost text = { λ v. fraction_text (Self.Kind.exact v) };
@@ -47,10 +20,15 @@ impl Print for Fraction {
 
     ghost as_long = { fraction_as_long };
 
-    fn print(self, memory: &mut [u8]) -> Result<usize, Refusal> {
-        if memory.len() < Self::LONGEST {
-            return Err(Refusal::Memory);
+    /// The numerator, and the denominator behind a slash where that is not 1.
+    fn text(self) -> Text {
+        let mut buffer = Buffer::new();
+        let mut text = Text::new();
+        text.push_str(buffer.format(self.numerator()));
+        if self.denominator() != 1 {
+            text.push('/');
+            text.push_str(buffer.format(self.denominator()));
         }
-        Ok(put_fraction(memory, self))
+        text
     }
 }

@@ -4,10 +4,8 @@ ghost use Rattle.std.specs.Prelude.{refl};
 ghost use Rattle.texts.proofs.Spelling.{same_rest};
 ghost use Rattle.texts.proofs.Longest.{rest_no_longer, rest_as_long};
 
-use crate::Print;
-use crate::digits::put_padded;
-use kinds::Kind;
-use kinds::refusal::Refusal;
+use crate::{Print, Text};
+use itoa::Buffer;
 use remainders::Remainder;
 
 impl Print for Remainder {
@@ -21,11 +19,13 @@ impl Print for Remainder {
 
     ghost as_long = { rest_as_long };
 
-    fn print(self, memory: &mut [u8]) -> Result<usize, Refusal> {
-        if memory.len() < Self::LONGEST {
-            return Err(Refusal::Memory);
-        }
-        put_padded(memory, 0, self.value(), Self::LONGEST);
-        Ok(Self::LONGEST)
+    /// Four digits, zeros in front.
+    fn text(self) -> Text {
+        let mut buffer = Buffer::new();
+        let digits = buffer.format(self.value());
+        let mut text = Text::new();
+        text.push_str(&"0000"[digits.len()..]);
+        text.push_str(digits);
+        text
     }
 }
