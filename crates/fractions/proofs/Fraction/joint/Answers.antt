@@ -1,5 +1,5 @@
-use Rattle.std.proofs.Common.{◌<◌, ℤ, nat_abs, sym, subst, arith, w32, SFits, rules}
-use Rattle.fractions.proofs.Wide.{size_fits, both_size, sum_kept, sum_fits, term_size, wide_term}
+use Rattle.std.proofs.Common.{◌<◌, ℤ, nat_abs, sym, subst, w32, SFits, rules}
+use Rattle.fractions.proofs.Wide.{both_size, sum_kept, sum_fits}
 use Rattle.fractions.proofs.Fraction.joint.Goals as goal
 
 pub overflow_add-result : goal.overflow_add-result

@@ -1,7 +1,6 @@
 use Rattle.std.proofs.Common.{ℕ, ◌*◌, ◌<◌, ℤ, pos, ◌*ℤ◌, nat_abs, sym, ap, ◌∙◌, subst, ap₂, w32, w64, SFits, to_z, of_z, rules}
 use Rattle.std.proofs.lemmas.Int.{to_z-of_z}
 use Rattle.integers.specs.Divisors.{gcd}
-use Rattle.integers.proofs.GcdLaws.{divisor_pos}
 use Rattle.integers.specs.Signs.{quot}
 use Rattle.algebra.proofs.Reduced.{times_from}
 use Rattle.fractions.specs.Fractions.{exact_q}
