@@ -1,11 +1,12 @@
 -- Counting with remainders as numbers: sums, the step of Euclid's rule that finds a reciprocal, and what the results stand for. Assumes nothing.
-use Rattle.std.proofs.Common.{◌≡◌, ℕ, ◌+◌, ◌-◌, ◌*◌, ◌/◌, ◌%◌, ◌<◌, ◌≤◌, ◌≢◌, [], ◌∷◌, pos, ◌+ℤ◌, ◌*ℤ◌, neg_ℤ, sym, ap, ◌∙◌, mod-lt, mod-eq_of_lt, arith}
+use Rattle.std.proofs.Common.{◌≡◌, ℕ, ◌+◌, ◌-◌, ◌*◌, ◌/◌, ◌%◌, ◌<◌, ◌≤◌, ◌≢◌, [], ◌∷◌, ℤ, pos, ◌+ℤ◌, ◌*ℤ◌, neg_ℤ, sym, ap, ◌∙◌, mod-lt, mod-eq_of_lt, arith}
 use native.Mathlib.Nat.{mod-eq-sub-mod, div-add-mod, add-mod-mod}
+use Rattle.std.proofs.Math.Bridge.{le_prop}
 use Rattle.integers.specs.Divisors.{gcd, Prime}
 use Rattle.integers.proofs.Primes.{prime_coprime}
 use Rattle.integers.proofs.RingInt.{ringℤ}
 use Rattle.integers.proofs.Ring.{Expr.var, Expr.◌⊕◌, Expr.◌⊖◌, Expr.◌⊗◌, Expr.⊝, Expr.I, Eqn.◌⊜◌, combine, v₀, v₁, v₂, v₃, v₄, v₅}
-use Rattle.algebra.specs.Remainder.{Rem, zero_r, plus_r, minus_r}
+use Rattle.algebra.specs.Remainder.{Rem, zero_r, plus_r, minus_r, whole_r}
 use Rattle.algebra.proofs.RemainderLaws.{Of, Of_unique, Rem_path, mod_of, self_of}
 
 -- a number below m is its own remainder
@@ -66,6 +67,9 @@ rest_of m a hf lf high low l h j = same m (a * f) (high % low) l (
 -- what the numbers stand for
 pub less_value : (p : ℕ) (h : 1 < p) (a b : Rem p) → (a.value + (p - b.value)) % p ≡ (plus_r p h a (minus_r p h b)).value
 less_value p h a b = sym (add-mod-mod a.value (p - b.value) p)
+
+pub whole_same : (p : ℕ) (h j : 1 < p) (z w : ℤ) → z ≡ w → (whole_r p h z).value ≡ (whole_r p j w).value
+whole_same p h j z w e = ap (λ (h : 1 < p). (whole_r p h z).value) (le_prop h j) ∙ ap (λ (z : ℤ). (whole_r p j z).value) e
 
 module _ (p : ℕ) (P : Prime p) where
   pub coprime_value : (b : Rem p) → b ≢ zero_r p P.0 → gcd b.value p ≡ 1

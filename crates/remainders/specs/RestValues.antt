@@ -1,10 +1,11 @@
 -- Stored remainders are told apart by their numbers, as what they stand for is. Assumes nothing.
 --     exact_same, value_same   a stored remainder and an exact one are the same exactly when their numbers are
 --     stored_same              stored remainders with equal numbers are the same
-use Rattle.std.specs.Prelude.{◌≡◌, ◌<◌}
+use Rattle.std.specs.Prelude.{◌≡◌, ◌<◌, ◌==◌, Decides}
 use Rattle.std.proofs.Common.{ap}
 use mathlib.Core.HLevel.{is_prop→PathP}
 use Rattle.std.proofs.Math.Bridge.{le_prop}
+use Rattle.std.proofs.lemmas.Bool.Decides.{Decides-eqb, Decides-like}
 use Rattle.algebra.specs.Remainder.{Rem}
 use Rattle.algebra.proofs.RemainderLaws.{Rem_path}
 use Rattle.remainders.specs.declared.Remainder.{Remainder}
@@ -19,3 +20,6 @@ value_same v x e = ap (λ (r : Rem modulus). r.value) e
 
 pub stored_same : (a b : Remainder) → a.value ≡ b.value → a ≡ b
 stored_same a b e = λ i. record { value = e i; below = is_prop→PathP (λ j. e j < modulus) (λ j. le_prop) a.below b.below i }
+
+pub told_apart : (a b : Rem modulus) → Decides (a.value == b.value) (a ≡ b)
+told_apart a b = Decides-like (a.value == b.value) (Rem_path a b) (λ e. ap (λ (r : Rem modulus). r.value) e) (Decides-eqb a.value b.value)

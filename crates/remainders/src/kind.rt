@@ -8,6 +8,7 @@ ghost use Rattle.remainders.specs.RestValues.{stored_same, value_same};
 ghost use Rattle.std.specs.Prelude.{◌≡◌, refl};
 
 use crate::Remainder;
+use crate::modulus::Modulus;
 use kinds::Kind;
 use kinds::refusal::{Reason, Refusal};
 use kinds::whole::Whole;
@@ -56,34 +57,40 @@ impl Kind for Remainder {
     ghost one_form = { λ a b e. stored_same a b (value_same a (exact_r b) e) };
 
     fn sum(self, other: Remainder) -> Result<Remainder, Reason> {
-        Ok(self.plus(other))
+        Ok(Remainder {
+            value: Modulus::REST.sum(self.value, other.value),
+        })
     }
 
     fn difference(self, other: Remainder) -> Result<Remainder, Reason> {
-        Ok(self.minus(other))
+        Ok(Remainder {
+            value: Modulus::REST.difference(self.value, other.value),
+        })
     }
 
     fn product(self, other: Remainder) -> Result<Remainder, Reason> {
-        Ok(self.times(other))
+        Ok(Remainder {
+            value: Modulus::REST.product(self.value, other.value),
+        })
     }
 
     fn quotient(self, divisor: Remainder) -> Result<Remainder, Refusal> {
-        if divisor.stands_for_zero() {
+        if divisor.is_zero() {
             return Err(Refusal::ZeroDivisor);
         }
-        Ok(self.times(divisor.reciprocal()))
+        Ok(self.product(divisor.reciprocal())?)
     }
 
     fn is_zero(self) -> bool {
-        self.stands_for_zero()
+        self.value == 0
     }
 
     fn alike(self, other: Remainder) -> bool {
-        self.stands_for_same(other)
+        self == other
     }
 
     /// What is not zero is heavier than zero, and nothing else is.
     fn heavier(self, other: Remainder) -> bool {
-        !self.stands_for_zero() && other.stands_for_zero()
+        self.value != 0 && other.value == 0
     }
 }

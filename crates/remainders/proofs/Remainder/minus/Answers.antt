@@ -1,8 +1,0 @@
-use Rattle.remainders.specs.Moduli.{modulus, modulus_prime}
-use Rattle.remainders.specs.Remainders.{exact_r}
-use Rattle.remainders.proofs.ByModulus.{less_value}
-use Rattle.remainders.specs.RestValues.{exact_same}
-use Rattle.remainders.proofs.Remainder.minus.Goals as goal
-
-pub returns : goal.returns
-returns c = exact_same _ _ (cc (less_value modulus modulus_prime.0 (exact_r c.args.self) (exact_r c.args.other)))
