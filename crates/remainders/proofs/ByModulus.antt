@@ -1,21 +1,14 @@
--- Counting with remainders as numbers: sums, the step of Euclid's rule that finds a reciprocal, and what the results stand for. Assumes nothing.
-use Rattle.std.proofs.Common.{◌≡◌, ℕ, ◌+◌, ◌-◌, ◌*◌, ◌/◌, ◌%◌, ◌<◌, ◌≤◌, ◌≢◌, [], ◌∷◌, ℤ, pos, ◌+ℤ◌, ◌*ℤ◌, neg_ℤ, sym, ap, ◌∙◌, mod-lt, mod-eq_of_lt, arith}
-use native.Mathlib.Nat.{mod-eq-sub-mod, div-add-mod, add-mod-mod}
+-- Counting with remainders as numbers: the step of Euclid's rule that finds a reciprocal, and what the numbers tell of the remainders. Assumes nothing.
+use Rattle.std.proofs.Common.{◌≡◌, ℕ, ◌+◌, ◌-◌, ◌*◌, ◌/◌, ◌%◌, ◌<◌, ◌≢◌, ◌==◌, Decides, [], ◌∷◌, ℤ, pos, ◌+ℤ◌, ◌*ℤ◌, neg_ℤ, ap, ◌∙◌, mod-lt, arith}
+use native.Mathlib.Nat.{div-add-mod}
 use Rattle.std.proofs.Math.Bridge.{le_prop}
+use Rattle.std.proofs.lemmas.Bool.Decides.{Decides-eqb, Decides-like}
 use Rattle.integers.specs.Divisors.{gcd, Prime}
 use Rattle.integers.proofs.Primes.{prime_coprime}
 use Rattle.integers.proofs.RingInt.{ringℤ}
 use Rattle.integers.proofs.Ring.{Expr.var, Expr.◌⊕◌, Expr.◌⊖◌, Expr.◌⊗◌, Expr.⊝, Expr.I, Eqn.◌⊜◌, combine, v₀, v₁, v₂, v₃, v₄, v₅}
-use Rattle.algebra.specs.Remainder.{Rem, zero_r, plus_r, minus_r, whole_r}
+use Rattle.algebra.specs.Remainder.{Rem, zero_r, whole_r}
 use Rattle.algebra.proofs.RemainderLaws.{Of, Of_unique, Rem_path, mod_of, self_of}
-
--- a number below m is its own remainder
-pub mod_none : (n m : ℕ) → n < m → n ≡ n % m
-mod_none n m l = sym (mod-eq_of_lt l)
-
--- and one below twice m, the rest
-pub mod_once : (n m : ℕ) → m ≤ n → n - m < m → n - m ≡ n % m
-mod_once n m h l = sym (mod-eq-sub-mod h ∙ mod-eq_of_lt l)
 
 -- numbers with the same remainder differ by a multiple of m, and the other way round
 apart : (m x y : ℕ) → x % m ≡ y % m → Of m (pos x) y
@@ -64,13 +57,15 @@ rest_of m a hf lf high low l h j = same m (a * f) (high % low) l (
     fo : Of m (pos (hf + (m - s))) f
     fo = mod_of m (hf + (m - s)) (pos (hf + (m - s))) (self_of m (hf + (m - s)))
 
--- what the numbers stand for
-pub less_value : (p : ℕ) (h : 1 < p) (a b : Rem p) → (a.value + (p - b.value)) % p ≡ (plus_r p h a (minus_r p h b)).value
-less_value p h a b = sym (add-mod-mod a.value (p - b.value) p)
+-- remainders are the same exactly when their numbers are
+pub told_apart : {p : ℕ} (a b : Rem p) → Decides (a.value == b.value) (a ≡ b)
+told_apart {p} a b = Decides-like (a.value == b.value) (Rem_path a b) (λ e. ap (λ (r : Rem p). r.value) e) (Decides-eqb a.value b.value)
 
+-- the remainder of a whole number, whichever proof there is that the modulus is above 1
 pub whole_same : (p : ℕ) (h j : 1 < p) (z w : ℤ) → z ≡ w → (whole_r p h z).value ≡ (whole_r p j w).value
 whole_same p h j z w e = ap (λ (h : 1 < p). (whole_r p h z).value) (le_prop h j) ∙ ap (λ (z : ℤ). (whole_r p j z).value) e
 
-module _ (p : ℕ) (P : Prime p) where
-  pub coprime_value : (b : Rem p) → b ≢ zero_r p P.0 → gcd b.value p ≡ 1
-  coprime_value b n = let m : b.value ≢ 0 = λ e. n (Rem_path b (zero_r p P.0) e) in prime_coprime p b.value P (omega arith) b.below
+-- a remainder by a prime that is not zero has no divisor in common with it
+pub coprime_value : (p : ℕ) (P : Prime p) (b : Rem p) → b ≢ zero_r p P.0 → gcd b.value p ≡ 1
+coprime_value p P b n =
+    let m : b.value ≢ 0 = λ e. n (Rem_path b (zero_r p P.0) e) in prime_coprime p b.value P (omega arith) b.below

@@ -1,3 +1,2 @@
 pub mod Moduli
 pub mod Remainders
-pub mod RestValues

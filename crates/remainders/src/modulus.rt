@@ -3,7 +3,7 @@ ghost use Rattle.std.specs.Prelude.{◌≡◌, ◌+◌, ◌-◌, ◌*◌, ◌%�
 ghost use Rattle.integers.specs.Divisors.{gcd};
 ghost use Rattle.algebra.specs.Remainder.{whole_r};
 
-/// A number to take remainders by, so small that the product of two remainders is stored.
+/// A number to take remainders by, so small that the product of two remainders fits in 32 bits.
 #[derive(Clone, Copy)]
 pub(crate) struct Modulus {
     by: u32,

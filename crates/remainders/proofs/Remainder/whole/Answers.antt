@@ -1,10 +1,10 @@
 use Rattle.std.proofs.Common.{◌∙◌, w32}
 use Rattle.std.proofs.lemmas.Int.{to_z-of_z}
+use Rattle.algebra.proofs.RemainderLaws.{Rem_path}
 use Rattle.remainders.specs.Moduli.{modulus, modulus_prime}
 use Rattle.remainders.specs.Remainders.{taken_r}
-use Rattle.remainders.specs.RestValues.{exact_same}
 use Rattle.remainders.proofs.ByModulus.{whole_same}
 use Rattle.remainders.proofs.Remainder.whole.Goals as goal
 
 pub returns : goal.returns
-returns c = exact_same _ (taken_r c.args.z) (c.whole.ensures ∙ whole_same modulus _ modulus_prime.0 _ _ (to_z-of_z w32 c.args.z c.ranges.z))
+returns c = Rem_path _ (taken_r c.args.z) (c.whole.ensures ∙ whole_same modulus _ modulus_prime.0 _ _ (to_z-of_z w32 c.args.z c.ranges.z))

@@ -1,9 +1,7 @@
-use Rattle.std.proofs.Common.{refl}
-use Rattle.remainders.specs.Moduli.{modulus, modulus_prime}
-use Rattle.remainders.specs.Remainders.{exact_r}
-use Rattle.remainders.specs.RestValues.{exact_same}
-use Rattle.remainders.proofs.ByModulus.{less_value}
+use Rattle.std.proofs.Common.{refl, sym, ◌∙◌}
+use Rattle.std.proofs.Math.Nat.{add-mod-mod}
+use Rattle.algebra.proofs.RemainderLaws.{Rem_path}
 use Rattle.remainders.proofs.kind.RemainderKind.difference.Goals as goal
 
 pub returns : goal.returns
-returns c = (refl, exact_same _ _ (cc (less_value modulus modulus_prime.0 (exact_r c.args.self) (exact_r c.args.other))))
+returns c = rw (← c.self.view_is, ← c.other.view_is) (refl, Rem_path _ _ (c.difference.ensures ∙ sym (add-mod-mod _ _ _)))
