@@ -1,6 +1,6 @@
-use Rattle.std.proofs.Common.{refl}
+use Rattle.std.proofs.Common.{rules, refl}
 use Rattle.algebra.proofs.RemainderLaws.{Rem_path}
 use Rattle.remainders.proofs.kind.RemainderKind.product.Goals as goal
 
 pub returns : goal.returns
-returns c = (refl, rw (← c.self.view_is, ← c.other.view_is) (Rem_path _ _ c.product.ensures))
+returns c = (refl, Rem_path _ _ (search rules))
