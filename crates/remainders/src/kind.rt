@@ -4,13 +4,25 @@ ghost use Rattle.algebra.specs.Remainder.{Rem};
 ghost use Rattle.remainders.specs.Moduli.{modulus, rest_digits, modulus_prime};
 ghost use Rattle.remainders.specs.Remainders.{rest_field, misfit_r, taken_r};
 ghost use Rattle.algebra.proofs.RemainderLaws.{whole_r_zero, whole_r_one, whole_r_plus};
-ghost use Rattle.std.specs.Prelude.{refl};
+ghost use Rattle.std.specs.Prelude.{◌≡◌, refl};
 
 use crate::Remainder;
 use crate::modulus::Modulus;
 use kinds::Kind;
 use kinds::refusal::{Reason, Refusal};
-use limits::{REST, RIGHT_SIDE_LIMIT};
+use kinds::whole::Whole;
+use limits::REST;
+
+/// Its remainder, also of a negative number.
+impl From<Whole> for Remainder {
+    ghost from_gives = { λ w r. r ≡ taken_r w.number };
+
+    fn from(whole: Whole) -> Remainder {
+        Remainder {
+            value: Modulus::REST.whole(whole.number),
+        }
+    }
+}
 
 impl Kind for Remainder {
     ghost Exact = { Rem modulus };
@@ -23,13 +35,15 @@ impl Kind for Remainder {
 
     ghost taken = { taken_r };
 
-    ghost letters = { rest_letters };
-
-    ghost longest = { rest_digits };
-
     const MARK: [u8; 4] = [REST[0], REST[1], REST[2], REST[3]];
 
+    ghost MARK = { rest_letters };
+
     const LONGEST: usize = 4;
+
+    ghost LONGEST = { rest_digits };
+
+    ghost from_whole = { λ w v e. e };
 
     ghost taken_zero = { whole_r_zero modulus modulus_prime.0 };
 
@@ -42,21 +56,6 @@ impl Kind for Remainder {
     ghost stored_fits = { λ v. refl };
 
     ghost one_form = { λ a b e. e };
-
-    fn mark_letters() -> [u8; 4] {
-        Self::MARK
-    }
-
-    fn longest_text() -> usize {
-        Self::LONGEST
-    }
-
-    fn take(whole: i32) -> Result<Remainder, Refusal> {
-        if whole.unsigned_abs() > RIGHT_SIDE_LIMIT {
-            return Err(Refusal::Number { position: 1 });
-        }
-        Ok(Remainder::whole(whole))
-    }
 
     fn sum(self, other: Remainder) -> Result<Remainder, Reason> {
         Ok(Remainder {

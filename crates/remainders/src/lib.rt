@@ -31,16 +31,7 @@ impl Model for Remainder {
 }
 
 impl Remainder {
-    ghost use Rattle.remainders.specs.Remainders.{rest_field, taken_r};
-
-    /// The remainder of a whole number.
-    pub(crate) fn whole(z: i32) -> Remainder
-        ensures { result ≡ taken_r z }
-    {
-        Remainder {
-            value: Modulus::REST.whole(z),
-        }
-    }
+    ghost use Rattle.remainders.specs.Remainders.{rest_field};
 
     /// The number, from 0 to one below the modulus.
     pub fn value(self) -> u32
