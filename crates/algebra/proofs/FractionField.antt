@@ -2,8 +2,7 @@
 use Rattle.std.proofs.Common.{◌≡◌, ℕ, ◌*◌, ◌<◌, ◌≤◌, true, false, ℤ, ◌+ℤ◌, nat_abs, sym, ap, ◌∙◌, mul-le-mul_right, mul_assoc, mul_comm, lt_of_mul-lt-mul_right, mul-lt-mul_of_pos_right, zero-mul, mul-one, le_of_mul-le-mul_right, arith}
 use Rattle.std.proofs.lemmas.Bool.{ltb-true, ltb-false, lt-ltb, le-ltb}
 use Rattle.integers.proofs.Sizes.{unsigned_abs_zero}
-use Rattle.integers.proofs.RingInt.{ringℤ}
-use Rattle.integers.proofs.Ring.{Expr.◌⊕◌, Expr.◌⊗◌, Expr.I, Eqn.◌⊜◌, ring₂}
+use Rattle.integers.proofs.Equations.{parts, differences, naturals}
 use Rattle.algebra.specs.Field.{Field}
 use Rattle.algebra.specs.Fraction.{Q, plus_q, times_q, minus_q, zero_q, one_q, whole_q, over_q, heavier_q}
 use Rattle.algebra.proofs.FractionLaws.{plus_q_assoc, plus_q_comm, plus_q_zero, plus_q_minus, times_q_assoc, times_q_comm, times_q_one, times_q-plus_q, times_q_over, one_q_zero, Q_set, zero_num, normal_eq, normal_self}
@@ -83,4 +82,4 @@ field_q = record {
 pub whole_q_plus : (x y : ℤ) → whole_q (x +ℤ y) ≡ plus_q (whole_q x) (whole_q y)
 unfolding plus_q
 whole_q_plus x y =
-    sym (normal_eq _ _ _ (x +ℤ y) 1 _ (ring₂ ringℤ (λ x y. (x ⊗ I ⊕ y ⊗ I) ⊗ I ⊜ (x ⊕ y) ⊗ (I ⊗ I)) tt x y) ∙ normal_self (whole_q (x +ℤ y)))
+    sym (normal_eq _ _ _ (x +ℤ y) 1 _ (rw (parts x, parts y) (simp differences (omega naturals))) ∙ normal_self (whole_q (x +ℤ y)))

@@ -1,5 +1,5 @@
 -- Exact fractions keep the laws of a field. Assumes nothing.
-use Rattle.std.proofs.Common.{◌≡◌, ℕ, suc, ◌*◌, ◌<◌, ◌≢◌, [], ◌∷◌, ℤ, pos, negsuc, ◌+ℤ◌, ◌*ℤ◌, nat_abs, sym, refl, ap, ◌∙◌, mul_comm, mul-pos, arith}
+use Rattle.std.proofs.Common.{◌≡◌, ℕ, suc, ◌*◌, ◌<◌, ◌≢◌, ℤ, pos, negsuc, ◌+ℤ◌, ◌*ℤ◌, neg_ℤ, nat_abs, sym, refl, ap, ◌∙◌, mul_comm, mul-pos, arith}
 use mathlib.Core.HLevel.{is_prop→PathP, hedberg}
 use Prim.Native.Nat as Nat
 use Prim.Native.Nat.{◌∣◌}
@@ -10,10 +10,10 @@ use Rattle.std.proofs.Math.Nat.{zero-lt-suc}
 use lib.IntN.{ℤ_discrete}
 use Rattle.integers.specs.Divisors.{gcd}
 use Rattle.integers.proofs.GcdLaws.{gcd_left, gcd_right, coprime_dvd}
-use Rattle.integers.proofs.Sizes.{unsigned_abs-*ℤ, quot_times, cancel}
-use Rattle.integers.proofs.RingInt.{ringℤ}
+use Rattle.std.proofs.lemmas.Int.{unsigned_abs-mul}
+use Rattle.integers.proofs.Sizes.{quot_times, cancel}
+use Rattle.integers.proofs.Equations.{parts, differences, naturals, adding}
 use Rattle.algebra.specs.Fraction.{Q, normal, plus_q, times_q, minus_q, zero_q, one_q, over_by, over_q}
-use Rattle.integers.proofs.Ring.{Expr.var, Expr.◌⊕◌, Expr.◌⊗◌, Expr.⊝, Expr.O, Expr.I, Eqn.◌⊜◌, combine, ring₂, ring₄, ring₆, v₀, v₁, v₂, v₃, v₄, v₅}
 
 pub Q_path : (p q : Q) → p.num ≡ q.num → p.den ≡ q.den → p ≡ q
 Q_path p q e f = λ i. record {
@@ -28,7 +28,7 @@ half : (p q : Q) → p.num *ℤ pos q.den ≡ q.num *ℤ pos p.den → p.den ∣
 half p q e = coprime_dvd (nat_abs p.num) p.den q.den p.low (∣◌∣₁ (nat_abs q.num, sizes))
   where
     sizes : nat_abs p.num * q.den ≡ p.den * nat_abs q.num
-    sizes = sym (unsigned_abs-*ℤ p.num (pos q.den)) ∙ ap nat_abs e ∙ unsigned_abs-*ℤ q.num (pos p.den) ∙ mul_comm (nat_abs q.num) p.den
+    sizes = sym (unsigned_abs-mul p.num (pos q.den)) ∙ ap nat_abs e ∙ unsigned_abs-mul q.num (pos p.den) ∙ mul_comm (nat_abs q.num) p.den
 
 pub lowest : (p q : Q) → p.num *ℤ pos q.den ≡ q.num *ℤ pos p.den → p ≡ q
 lowest p q e = Q_path p q (cancel p.num q.num q.den q.den_pos (e ∙ ap (λ (d : ℕ). q.num *ℤ pos d) dens)) dens
@@ -47,8 +47,10 @@ normal_den n d h = div-mul_cancel (gcd (nat_abs n) d) (gcd_right (nat_abs n) d)
 
 pub normal_rep : (n : ℤ) (d : ℕ) (h : 0 < d) → (normal n d h).num *ℤ pos d ≡ n *ℤ pos (normal n d h).den
 normal_rep n d h =
-    combine ringℤ ((normal n d h).num ∷ pos (normal n d h).den ∷ pos (gcd (nat_abs n) d) ∷ n ∷ pos d ∷ [])
-    ((⊝ v₀, v₁ ⊗ v₂ ⊜ v₄) ∷ (v₁, v₀ ⊗ v₂ ⊜ v₃) ∷ []) (v₀ ⊗ v₄ ⊜ v₃ ⊗ v₁) tt (ap pos (normal_den n d h), (normal_num n d h, tt))
+    adding q.num (ap pos (normal_den n d h)) (adding (neg_ℤ (pos q.den)) (normal_num n d h) (rw (parts q.num, parts n) (simp differences (omega naturals))))
+  where
+    q : Q
+    q = normal n d h
 
 pub normal_self : (q : Q) → normal q.num q.den q.den_pos ≡ q
 normal_self q = lowest (normal q.num q.den q.den_pos) q (normal_rep q.num q.den q.den_pos)
@@ -65,9 +67,9 @@ normal_eq n d h m e k c = lowest p q (cancel (p.num *ℤ pos q.den) (q.num *ℤ 
     -- N d = n D, M e = m E, n e = m d: (N E)(d e) = (M D)(d e)
     same : p.num *ℤ pos q.den *ℤ pos (d * e) ≡ q.num *ℤ pos p.den *ℤ pos (d * e)
     same =
-        combine ringℤ (p.num ∷ pos p.den ∷ q.num ∷ pos q.den ∷ n ∷ pos d ∷ m ∷ pos e ∷ [])
-        ((v₃ ⊗ var 7, v₀ ⊗ v₅ ⊜ v₄ ⊗ v₁) ∷ (⊝ (v₁ ⊗ v₅), v₂ ⊗ var 7 ⊜ var 6 ⊗ v₃) ∷ (v₁ ⊗ v₃, v₄ ⊗ var 7 ⊜ var 6 ⊗ v₅) ∷ [])
-        (v₀ ⊗ v₃ ⊗ (v₅ ⊗ var 7) ⊜ v₂ ⊗ v₁ ⊗ (v₅ ⊗ var 7)) tt (normal_rep n d h, (normal_rep m e k, (c, tt)))
+        adding (neg_ℤ (pos (q.den * e))) (normal_rep n d h)
+        (adding (pos (p.den * d)) (normal_rep m e k)
+        (adding (neg_ℤ (pos (p.den * q.den))) c (rw (parts p.num, parts q.num, parts n, parts m) (simp differences (omega naturals)))))
 
 -- ---- at any representatives
 plus_normal : (a : ℤ) (b : ℕ) (h : 0 < b) (c : ℤ) (d : ℕ) (k : 0 < d)
@@ -75,9 +77,8 @@ plus_normal : (a : ℤ) (b : ℕ) (h : 0 < b) (c : ℤ) (d : ℕ) (k : 0 < d)
 unfolding plus_q
 plus_normal a b h c d k =
     normal_eq (p.num *ℤ pos q.den +ℤ q.num *ℤ pos p.den) (p.den * q.den) (mul-pos p.den_pos q.den_pos) (a *ℤ pos d +ℤ c *ℤ pos b) (b * d) (mul-pos h k)
-    (combine ringℤ (p.num ∷ pos p.den ∷ q.num ∷ pos q.den ∷ a ∷ pos b ∷ c ∷ pos d ∷ [])
-    ((v₃ ⊗ var 7, v₀ ⊗ v₅ ⊜ v₄ ⊗ v₁) ∷ (v₁ ⊗ v₅, v₂ ⊗ var 7 ⊜ var 6 ⊗ v₃) ∷ [])
-    ((v₀ ⊗ v₃ ⊕ v₂ ⊗ v₁) ⊗ (v₅ ⊗ var 7) ⊜ (v₄ ⊗ var 7 ⊕ var 6 ⊗ v₅) ⊗ (v₁ ⊗ v₃)) tt (normal_rep a b h, (normal_rep c d k, tt)))
+    (adding (neg_ℤ (pos (q.den * d))) (normal_rep a b h)
+    (adding (neg_ℤ (pos (p.den * b))) (normal_rep c d k) (rw (parts p.num, parts q.num, parts a, parts c) (simp differences (omega naturals)))))
   where
     p : Q
     p = normal a b h
@@ -90,9 +91,8 @@ times_normal : (a : ℤ) (b : ℕ) (h : 0 < b) (c : ℤ) (d : ℕ) (k : 0 < d)
 unfolding times_q
 times_normal a b h c d k =
     normal_eq (p.num *ℤ q.num) (p.den * q.den) (mul-pos p.den_pos q.den_pos) (a *ℤ c) (b * d) (mul-pos h k)
-    (combine ringℤ (p.num ∷ pos p.den ∷ q.num ∷ pos q.den ∷ a ∷ pos b ∷ c ∷ pos d ∷ [])
-    ((v₂ ⊗ var 7, v₀ ⊗ v₅ ⊜ v₄ ⊗ v₁) ∷ (v₄ ⊗ v₁, v₂ ⊗ var 7 ⊜ var 6 ⊗ v₃) ∷ [])
-    ((v₀ ⊗ v₂) ⊗ (v₅ ⊗ var 7) ⊜ (v₄ ⊗ var 6) ⊗ (v₁ ⊗ v₃)) tt (normal_rep a b h, (normal_rep c d k, tt)))
+    (adding (neg_ℤ (q.num *ℤ pos d)) (normal_rep a b h)
+    (adding (neg_ℤ (a *ℤ pos p.den)) (normal_rep c d k) (rw (parts p.num, parts q.num, parts a, parts c) (simp differences (omega naturals)))))
   where
     p : Q
     p = normal a b h
@@ -110,21 +110,20 @@ unfolding plus_q
 plus_q_comm p q =
     normal_eq (p.num *ℤ pos q.den +ℤ q.num *ℤ pos p.den) (p.den * q.den) (mul-pos p.den_pos q.den_pos)
     (q.num *ℤ pos p.den +ℤ p.num *ℤ pos q.den) (q.den * p.den) (mul-pos q.den_pos p.den_pos)
-    (ring₄ ringℤ (λ a b c d. (a ⊗ d ⊕ c ⊗ b) ⊗ (d ⊗ b) ⊜ (c ⊗ b ⊕ a ⊗ d) ⊗ (b ⊗ d)) tt p.num (pos p.den) q.num (pos q.den))
+    (rw (parts p.num, parts q.num) (simp differences (omega naturals)))
 
 pub times_q_comm : (p q : Q) → times_q p q ≡ times_q q p
 unfolding times_q
 times_q_comm p q =
     normal_eq (p.num *ℤ q.num) (p.den * q.den) (mul-pos p.den_pos q.den_pos) (q.num *ℤ p.num) (q.den * p.den) (mul-pos q.den_pos p.den_pos)
-    (ring₄ ringℤ (λ a b c d. (a ⊗ c) ⊗ (d ⊗ b) ⊜ (c ⊗ a) ⊗ (b ⊗ d)) tt p.num (pos p.den) q.num (pos q.den))
+    (rw (parts p.num, parts q.num) (simp differences (omega naturals)))
 
 pub plus_q_assoc : (p q r : Q) → plus_q (plus_q p q) r ≡ plus_q p (plus_q q r)
 unfolding plus_q
 plus_q_assoc p q r =
     as_normal (plus_q (plus_q p q)) r ∙ plus_normal _ _ _ _ _ _
     ∙ normal_eq _ _ _ _ _ _
-    (ring₆ ringℤ (λ a b c d e f. ((a ⊗ d ⊕ c ⊗ b) ⊗ f ⊕ e ⊗ (b ⊗ d)) ⊗ (b ⊗ (d ⊗ f)) ⊜ (a ⊗ (d ⊗ f) ⊕ (c ⊗ f ⊕ e ⊗ d) ⊗ b) ⊗ ((b ⊗ d) ⊗ f)) tt
-    p.num (pos p.den) q.num (pos q.den) r.num (pos r.den))
+    (rw (parts p.num, parts q.num, parts r.num) (simp differences (omega naturals)))
     ∙ sym (as_normal (λ x. plus_q x (plus_q q r)) p ∙ plus_normal _ _ _ _ _ _)
 
 pub times_q_assoc : (p q r : Q) → times_q (times_q p q) r ≡ times_q p (times_q q r)
@@ -132,8 +131,7 @@ unfolding times_q
 times_q_assoc p q r =
     as_normal (times_q (times_q p q)) r ∙ times_normal _ _ _ _ _ _
     ∙ normal_eq _ _ _ _ _ _
-    (ring₆ ringℤ (λ a b c d e f. ((a ⊗ c) ⊗ e) ⊗ (b ⊗ (d ⊗ f)) ⊜ (a ⊗ (c ⊗ e)) ⊗ ((b ⊗ d) ⊗ f)) tt
-    p.num (pos p.den) q.num (pos q.den) r.num (pos r.den))
+    (rw (parts p.num, parts q.num, parts r.num) (simp differences (omega naturals)))
     ∙ sym (as_normal (λ x. times_q x (times_q q r)) p ∙ times_normal _ _ _ _ _ _)
 
 pub times_q-plus_q : (p q r : Q) → times_q p (plus_q q r) ≡ plus_q (times_q p q) (times_q p r)
@@ -141,27 +139,26 @@ unfolding times_q plus_q
 times_q-plus_q p q r =
     as_normal (λ x. times_q x (plus_q q r)) p ∙ times_normal _ _ _ _ _ _
     ∙ normal_eq _ _ _ _ _ _
-    (ring₆ ringℤ (λ a b c d e f. (a ⊗ (c ⊗ f ⊕ e ⊗ d)) ⊗ ((b ⊗ d) ⊗ (b ⊗ f)) ⊜ ((a ⊗ c) ⊗ (b ⊗ f) ⊕ (a ⊗ e) ⊗ (b ⊗ d)) ⊗ (b ⊗ (d ⊗ f))) tt
-    p.num (pos p.den) q.num (pos q.den) r.num (pos r.den))
+    (rw (parts p.num, parts q.num, parts r.num) (simp differences (omega naturals)))
     ∙ sym (plus_normal _ _ _ _ _ _)
 
 pub plus_q_zero : (p : Q) → plus_q p zero_q ≡ p
 unfolding plus_q
 plus_q_zero p =
-    normal_eq _ _ _ p.num p.den p.den_pos (ring₂ ringℤ (λ a b. (a ⊗ I ⊕ O ⊗ b) ⊗ b ⊜ a ⊗ (b ⊗ I)) tt p.num (pos p.den)) ∙ normal_self p
+    normal_eq _ _ _ p.num p.den p.den_pos (rw (parts p.num) (simp differences (omega naturals))) ∙ normal_self p
 
 pub plus_q_minus : (p : Q) → plus_q p (minus_q p) ≡ zero_q
 unfolding plus_q minus_q
 plus_q_minus p =
     as_normal (λ x. plus_q x (minus_q p)) p ∙ plus_normal _ _ _ _ _ _
-    ∙ normal_eq _ _ _ (pos 0) 1 (zero-lt-suc 0) (ring₂ ringℤ (λ a b. (a ⊗ b ⊕ (⊝ a) ⊗ b) ⊗ I ⊜ O ⊗ (b ⊗ b)) tt p.num (pos p.den)) ∙ normal_self zero_q
+    ∙ normal_eq _ _ _ (pos 0) 1 (zero-lt-suc 0) (rw (parts p.num) (simp differences (omega naturals))) ∙ normal_self zero_q
 
 pub times_q_one : (p : Q) → times_q p one_q ≡ p
 unfolding times_q
-times_q_one p = normal_eq _ _ _ p.num p.den p.den_pos (ring₂ ringℤ (λ a b. (a ⊗ I) ⊗ b ⊜ a ⊗ (b ⊗ I)) tt p.num (pos p.den)) ∙ normal_self p
+times_q_one p = normal_eq _ _ _ p.num p.den p.den_pos (rw (parts p.num) (simp differences (omega naturals))) ∙ normal_self p
 
 pub zero_num : (p : Q) → p.num ≡ pos 0 → p ≡ zero_q
-zero_num p e = lowest p zero_q (combine ringℤ (p.num ∷ pos p.den ∷ []) ((I, v₀ ⊜ O) ∷ []) (v₀ ⊗ I ⊜ O ⊗ v₁) tt (e, tt))
+zero_num p e = lowest p zero_q (rw e (simp differences (omega naturals)))
 
 pub times_q_over : (p : Q) → p ≢ zero_q → times_q p (over_q p) ≡ one_q
 unfolding over_q over_by
@@ -170,9 +167,9 @@ times_q_over p n = as_normal (λ x. times_q x (over_q p)) p ∙ go p.num p.den p
     go : (z : ℤ) (d : ℕ) (h : 0 < d) → z ≢ pos 0 → times_q (normal z d h) (over_by z d h) ≡ one_q
     go (pos Nat.zero) d h n = absurd (n refl)
     go (pos (suc k)) d h n =
-        times_normal _ _ _ _ _ _ ∙ normal_eq _ _ _ (pos 1) 1 (zero-lt-suc 0) (ring₂ ringℤ (λ z d. (z ⊗ d) ⊗ I ⊜ I ⊗ (d ⊗ z)) tt (pos (suc k)) (pos d)) ∙ normal_self one_q
+        times_normal _ _ _ _ _ _ ∙ normal_eq _ _ _ (pos 1) 1 (zero-lt-suc 0) (simp differences (omega naturals)) ∙ normal_self one_q
     go (negsuc k) d h n =
-        times_normal _ _ _ _ _ _ ∙ normal_eq _ _ _ (pos 1) 1 (zero-lt-suc 0) (ring₂ ringℤ (λ z d. (⊝ z ⊗ ⊝ d) ⊗ I ⊜ I ⊗ (d ⊗ z)) tt (pos (suc k)) (pos d)) ∙ normal_self one_q
+        times_normal _ _ _ _ _ _ ∙ normal_eq _ _ _ (pos 1) 1 (zero-lt-suc 0) (simp differences (omega naturals)) ∙ normal_self one_q
 
 pub one_q_zero : one_q ≢ zero_q
 one_q_zero e = let h : ◌≡◌ {A = ℕ} 1 0 = ap (λ (q : Q). nat_abs q.num) e in omega arith

@@ -1,4 +1,3 @@
-pub mod FieldRing
 pub mod FieldLaws
 pub mod FractionLaws
 pub mod FractionField

@@ -3,16 +3,17 @@
 --     it is t / h over (b / g) (d / h).
 --     Parts of a / b times c / d: with g common to a and d, and h common to c and b,
 --     it is (a / g) (c / h) over (b / h) (d / g).
-use Rattle.std.proofs.Common.{◌≡◌, ℕ, ◌*◌, ◌/◌, ◌%◌, ◌<◌, ◌≢◌, [], ◌∷◌, ℤ, pos, ◌+ℤ◌, ◌*ℤ◌, neg_ℤ, nat_abs, sym, refl, ap, ◌∙◌, subst, ap₂, mul_assoc, mul-pos, div-one}
+use Rattle.std.proofs.Common.{◌≡◌, ℕ, ◌*◌, ◌/◌, ◌%◌, ◌<◌, ◌≢◌, ℤ, pos, ◌+ℤ◌, ◌*ℤ◌, neg_ℤ, nat_abs, sym, refl, ap, ◌∙◌, subst, ap₂, mul_assoc, mul-pos, div-one}
 use Prim.Native.Nat.{◌∣◌}
+use lib.IntN.{+ℤ_comm}
 use native.Mathlib.Nat.{mul-div_assoc, div-mul_cancel, dvd-mul_right, dvd_trans}
 use Rattle.integers.specs.Divisors.{gcd}
 use Rattle.integers.proofs.GcdLaws.{gcd_left, gcd_right, gcd_pos, gcd-mod, gcd_comm, gcd_quotients, quot_pos}
 use Rattle.integers.proofs.Coprime.{coprime_part, coprime_times, coprime_plus, gcd_times_coprime, dvd_multiple}
 use Rattle.integers.specs.Signs.{quot}
-use Rattle.integers.proofs.Sizes.{unsigned_abs-*ℤ, unsigned_abs_quot, quot_times}
-use Rattle.integers.proofs.RingInt.{ringℤ}
-use Rattle.integers.proofs.Ring.{Expr.var, Expr.◌⊕◌, Expr.◌⊗◌, Expr.⊝, Expr.O, Expr.I, Eqn.◌⊜◌, combine, ring₂, v₀, v₁, v₂, v₃, v₄, v₅}
+use Rattle.std.proofs.lemmas.Int.{unsigned_abs-mul}
+use Rattle.integers.proofs.Sizes.{unsigned_abs_quot, quot_times}
+use Rattle.integers.proofs.Equations.{parts, differences, naturals, adding}
 use Rattle.algebra.specs.Fraction.{Q, plus_q, times_q, minus_q, over_q, zero_q, one_q}
 use Rattle.algebra.proofs.FractionLaws.{normal_eq, normal_self}
 use Rattle.algebra.proofs.FractionField.{field_q}
@@ -29,7 +30,7 @@ times_from p q r e = sym (normal_self r) ∙ normal_eq _ _ _ _ _ _ e
 
 pub none_from : (p q : Q) → p.num *ℤ q.num ≡ pos 0 → zero_q ≡ times_q p q
 none_from p q e =
-    times_from p q zero_q (combine ringℤ (p.num ∷ q.num ∷ pos p.den ∷ pos q.den ∷ []) ((⊝ I, v₀ ⊗ v₁ ⊜ O) ∷ []) (O ⊗ (v₂ ⊗ v₃) ⊜ (v₀ ⊗ v₁) ⊗ I) tt (e, tt))
+    times_from p q zero_q (rw e (simp differences (omega naturals)))
 
 pub minus_from : (p r : Q) → r.num ≡ neg_ℤ p.num → r.den ≡ p.den → r ≡ minus_q p
 unfolding minus_q
@@ -37,15 +38,14 @@ minus_from p r e f = sym (normal_self r) ∙ normal_eq _ _ _ _ _ _ (ap₂ (λ (x
 
 pub over_from : (p r : Q) → p ≢ zero_q → p.num *ℤ r.num ≡ pos (p.den * r.den) → r ≡ over_q p
 over_from p r n e =
-    over_unique field_q p r n
-    (sym (times_from p r one_q (combine ringℤ (p.num ∷ r.num ∷ pos p.den ∷ pos r.den ∷ []) ((⊝ I, v₀ ⊗ v₁ ⊜ v₂ ⊗ v₃) ∷ []) (I ⊗ (v₂ ⊗ v₃) ⊜ (v₀ ⊗ v₁) ⊗ I) tt (e, tt))))
+    over_unique field_q p r (sym (times_from p r one_q (rw e (simp differences (omega naturals)))))
 
 -- ---- the sum
 -- the two parts of the numerator have nothing in common with the denominators' own factors
 part_coprime : (a c : ℤ) (b d : ℕ) → 0 < d → gcd (nat_abs a) b ≡ 1 → gcd (nat_abs (a *ℤ pos (d / gcd b d) +ℤ c *ℤ pos (b / gcd b d))) (b / gcd b d) ≡ 1
 part_coprime a c b d hd low =
     coprime_plus (a *ℤ pos (d / gcd b d)) (c *ℤ pos (b / gcd b d)) (b / gcd b d)
-    (ap (λ (x : ℕ). gcd x (b / gcd b d)) (unsigned_abs-*ℤ a (pos (d / gcd b d))) ∙ gcd_comm _ _
+    (ap (λ (x : ℕ). gcd x (b / gcd b d)) (unsigned_abs-mul a (pos (d / gcd b d))) ∙ gcd_comm _ _
     ∙ coprime_times (b / gcd b d) (nat_abs a) (d / gcd b d) (gcd_comm _ _ ∙ coprime_part (nat_abs a) b (b / gcd b d) low own) (gcd_quotients b d hd))
     (dvd_multiple (b / gcd b d) (c *ℤ pos (b / gcd b d)) c refl)
   where
@@ -61,7 +61,7 @@ module _ (a c : ℤ) (b d : ℕ) (hb : 0 < b) (hd : 0 < d) (low : gcd (nat_abs a
   whole_coprime = coprime_times (nat_abs (joint a c b d (gcd b d))) (b / gcd b d) (d / gcd b d) (part_coprime a c b d hd low) other
     where
       turned : joint c a d b (gcd d b) ≡ joint a c b d (gcd b d)
-      turned = ap (λ (g : ℕ). joint c a d b g) (gcd_comm d b) ∙ ring₂ ringℤ (λ x y. x ⊕ y ⊜ y ⊕ x) tt (c *ℤ pos (b / gcd b d)) (a *ℤ pos (d / gcd b d))
+      turned = ap (λ (g : ℕ). joint c a d b g) (gcd_comm d b) ∙ +ℤ_comm (c *ℤ pos (b / gcd b d)) (a *ℤ pos (d / gcd b d))
 
       other : gcd (nat_abs (joint a c b d (gcd b d))) (d / gcd b d) ≡ 1
       other = ap₂ (λ (x : ℤ) (g : ℕ). gcd (nat_abs x) (d / g)) (sym turned) (gcd_comm b d) ∙ part_coprime c a d b hb low'
@@ -96,16 +96,15 @@ module _ (a c : ℤ) (b d : ℕ) (hb : 0 < b) (hd : 0 < d) (low : gcd (nat_abs a
 pub sum_value : (a c : ℤ) (b d g h : ℕ) → g ∣ b → g ∣ d → h ∣ d → h ∣ nat_abs (joint a c b d g)
     → quot (joint a c b d g) h *ℤ pos (b * d) ≡ (a *ℤ pos d +ℤ c *ℤ pos b) *ℤ pos (b / g * (d / h))
 sum_value a c b d g h gb gd hd ht =
-    combine ringℤ (quot (joint a c b d g) h ∷ a ∷ c ∷ pos b ∷ pos d ∷ pos g ∷ pos h ∷ pos (b / g) ∷ pos (d / g) ∷ pos (d / h) ∷ [])
-    ((v₀ ⊗ v₄, v₃ ⊜ var 7 ⊗ v₅)
-    ∷ (v₀ ⊗ var 7 ⊗ v₅, v₄ ⊜ var 9 ⊗ var 6)
-    ∷ (var 7 ⊗ v₅ ⊗ var 9, v₀ ⊗ var 6 ⊜ v₁ ⊗ var 8 ⊕ v₂ ⊗ var 7)
-    ∷ (⊝ (v₁ ⊗ var 7 ⊗ var 9), v₄ ⊜ var 8 ⊗ v₅)
-    ∷ (⊝ (v₂ ⊗ var 7 ⊗ var 9), v₃ ⊜ var 7 ⊗ v₅)
-    ∷ [])
-    (v₀ ⊗ (v₃ ⊗ v₄) ⊜ (v₁ ⊗ v₄ ⊕ v₂ ⊗ v₃) ⊗ (var 7 ⊗ var 9)) tt
-    (back b g gb, (back d h hd, (quot_times (joint a c b d g) h ht, (back d g gd, (back b g gb, tt)))))
+    adding (neg_ℤ (n *ℤ pos d)) (back b g gb)
+    (adding (neg_ℤ (n *ℤ pos (b / g * g))) (back d h hd)
+    (adding (neg_ℤ (pos (b / g * g * (d / h)))) (quot_times (joint a c b d g) h ht)
+    (adding (a *ℤ pos (b / g * (d / h))) (back d g gd)
+    (adding (c *ℤ pos (b / g * (d / h))) (back b g gb) (rw (parts n, parts a, parts c) (simp differences (omega naturals)))))))
   where
+    n : ℤ
+    n = quot (joint a c b d g) h
+
     back : (x g : ℕ) → g ∣ x → pos x ≡ pos (x / g) *ℤ pos g
     back x g h = ap pos (sym (div-mul_cancel g h))
 
@@ -144,7 +143,7 @@ module _ (a c : ℤ) (b d : ℕ) (hb : 0 < b) (hd : 0 < d) (low : gcd (nat_abs a
 pub product_lowest : (a c : ℤ) (b d g h : ℕ) → 0 < b → 0 < d → gcd (nat_abs a) b ≡ 1 → gcd (nat_abs c) d ≡ 1 → g ≡ gcd (nat_abs a) d → h ≡ gcd (nat_abs c) b
     → gcd (nat_abs (quot a g *ℤ quot c h)) (b / h * (d / g)) ≡ 1
 product_lowest a c b d g h hb hd low low' e f =
-    ap (λ (x : ℕ). gcd x (b / h * (d / g))) (unsigned_abs-*ℤ (quot a g) (quot c h) ∙ ap₂ ◌*◌ (unsigned_abs_quot a g) (unsigned_abs_quot c h))
+    ap (λ (x : ℕ). gcd x (b / h * (d / g))) (unsigned_abs-mul (quot a g) (quot c h) ∙ ap₂ ◌*◌ (unsigned_abs_quot a g) (unsigned_abs_quot c h))
     ∙ ap₂ (λ (g h : ℕ). gcd (nat_abs a / g * (nat_abs c / h)) (b / h * (d / g))) e f
     ∙ four (nat_abs a) (nat_abs c) b d hb hd low low'
   where
@@ -166,14 +165,16 @@ product_lowest a c b d g h hb hd low low' e f =
 pub product_value : (a c : ℤ) (b d g h : ℕ) → g ∣ nat_abs a → g ∣ d → h ∣ nat_abs c → h ∣ b
     → (quot a g *ℤ quot c h) *ℤ pos (b * d) ≡ (a *ℤ c) *ℤ pos (b / h * (d / g))
 product_value a c b d g h ga gd hc hb =
-    combine ringℤ (quot a g ∷ quot c h ∷ a ∷ c ∷ pos b ∷ pos d ∷ pos g ∷ pos h ∷ pos (b / h) ∷ pos (d / g) ∷ [])
-    ((v₀ ⊗ v₁ ⊗ v₅, v₄ ⊜ var 8 ⊗ var 7)
-    ∷ (v₀ ⊗ v₁ ⊗ (var 8 ⊗ var 7), v₅ ⊜ var 9 ⊗ var 6)
-    ∷ (v₁ ⊗ var 7 ⊗ (var 8 ⊗ var 9), v₀ ⊗ var 6 ⊜ v₂)
-    ∷ (v₂ ⊗ (var 8 ⊗ var 9), v₁ ⊗ var 7 ⊜ v₃)
-    ∷ [])
-    ((v₀ ⊗ v₁) ⊗ (v₄ ⊗ v₅) ⊜ (v₂ ⊗ v₃) ⊗ (var 8 ⊗ var 9)) tt
-    (ap pos (sym (div-mul_cancel h hb)), (ap pos (sym (div-mul_cancel g gd)), (quot_times a g ga, (quot_times c h hc, tt))))
+    adding (neg_ℤ (m *ℤ n *ℤ pos d)) (ap pos (sym (div-mul_cancel h hb)))
+    (adding (neg_ℤ (m *ℤ n *ℤ pos (b / h * h))) (ap pos (sym (div-mul_cancel g gd)))
+    (adding (neg_ℤ (n *ℤ pos (h * (b / h * (d / g))))) (quot_times a g ga)
+    (adding (neg_ℤ (a *ℤ pos (b / h * (d / g)))) (quot_times c h hc) (rw (parts m, parts n, parts a, parts c) (simp differences (omega naturals))))))
+  where
+    m : ℤ
+    m = quot a g
+
+    n : ℤ
+    n = quot c h
 
 -- ---- the product as it is worked out step by step
 module _ (a c : ℤ) (b d g h : ℕ) (m : ℤ) (hb : 0 < b) (hd : 0 < d) (low : gcd (nat_abs a) b ≡ 1) (low' : gcd (nat_abs c) d ≡ 1)

@@ -1,21 +1,19 @@
 -- The remainders by a prime are a field. Assumes nothing.
-use Rattle.std.proofs.Common.{◌≡◌, ℕ, suc, ◌+◌, ◌*◌, ◌%◌, ◌<◌, ◌≤◌, Bool, true, false, not, ◌&&◌, eqb, ◌≢◌, [], ◌∷◌, ℤ, pos, ◌+ℤ◌, ◌*ℤ◌, neg_ℤ, sym, refl, ap, ◌∙◌, subst, arith}
-use Prim.Native.Nat as Nat
+use Rattle.std.proofs.Common.{◌≡◌, ℕ, zero, suc, ◌+◌, ◌*◌, ◌%◌, ◌<◌, ◌≤◌, Bool, true, false, not, ◌&&◌, eqb, ◌≢◌, ℤ, pos, ◌+ℤ◌, ◌*ℤ◌, neg_ℤ, sym, refl, ap, ◌∙◌, arith}
 use Rattle.std.proofs.lemmas.Bool.{eqb-true, eqb-false, true≢false}
+use Rattle.std.proofs.lemmas.Nat.{mul-mod_second}
 use Rattle.integers.specs.Divisors.{gcd, Prime}
 use Rattle.integers.proofs.Primes.{prime_coprime}
 use Rattle.integers.proofs.Bezout.{bezout}
-use Rattle.integers.proofs.RingInt.{ringℤ}
-use Rattle.integers.proofs.Ring.{zero_times, Expr.◌⊕◌, Expr.◌⊗◌, Expr.⊝, Expr.I, Eqn.◌⊜◌, combine, v₀, v₁, v₂, v₃, v₄}
+use Rattle.integers.proofs.Equations.{parts, differences, naturals, adding}
 use Rattle.algebra.specs.Field.{Field}
 use Rattle.algebra.specs.Remainder.{Rem, first_from, zero_r, one_r, plus_r, times_r, minus_r, over_r, whole_r, heavier_r}
-use Rattle.algebra.proofs.FieldRing.{ring_of}
 use Rattle.algebra.proofs.FieldLaws.{over_unique}
-use Rattle.algebra.proofs.RemainderLaws.{Of, Rem_path, Rem_set, mod_of, self_of, same_of, times_of, own_of, whole_of, plus_r_comm, plus_r_assoc, plus_r_zero, plus_r_minus, times_r_comm, times_r_assoc, times_r_one, times_r_plus, one_r_zero}
+use Rattle.algebra.proofs.RemainderLaws.{Rem_path, Rem_set, self_of, same_of, times_of, whole_of, plus_r_comm, plus_r_assoc, plus_r_zero, plus_r_minus, times_r_comm, times_r_assoc, times_r_one, times_r_plus, one_r_zero}
 
 -- the search finds a number where there is one
 first_found : (p a k b w : ℕ) → b ≤ w → w < b + k → a * w % p ≡ 1 → a * first_from p a k b % p ≡ 1
-first_found p a Nat.zero b w l m e = absurd (omega arith)
+first_found p a zero b w l m e = absurd (omega arith)
 first_found p a (suc k) b w l m e = go (eqb (a * b % p) 1) refl (λ n. first_found p a k (suc b) w n (omega arith) e)
   where
     go : (t : Bool) → eqb (a * b % p) 1 ≡ t → (suc b ≤ w → a * first_from p a k (suc b) % p ≡ 1) → a * elim t [ true ↦ b | false ↦ first_from p a k (suc b) ] % p ≡ 1
@@ -43,39 +41,28 @@ module _ (p : ℕ) (P : Prime p) where
 
   -- the factor of a in the combination of a and p that is 1
   inverse : (a : Rem p) → a ≢ zero_r p P.0 → (b : Rem p) × (times_r p P.0 a b ≡ one_r p P.0)
-  inverse a n = (
-    whole_r p P.0 r.0,
-    same_of p P.0 _ _ _ (one_r p P.0) refl (times_of p P.0 _ _ a (whole_r p P.0 r.0) (own_of p P.0 a) (whole_of p P.0 r.0)) (neg_ℤ r.1, one),
-  )
+  inverse a n = (whole_r p P.0 x, same_of p P.0 _ _ (one_r p P.0) (times_of p P.0 _ _ a (whole_r p P.0 x) (self_of p a.value) (whole_of p P.0 x)) (neg_ℤ y, one))
     where
-      r : (x : ℤ) × (y : ℤ) × (pos (gcd a.value p) ≡ x *ℤ pos a.value +ℤ y *ℤ pos p)
-      r = bezout a.value p
-
-      above : 0 < a.value
-      above = let m : a.value ≢ 0 = λ e. n (value_zero a e) in omega arith
-
       common : gcd a.value p ≡ 1
-      common = prime_coprime p a.value P above a.below
+      common = let m : a.value ≢ 0 = λ e. n (value_zero a e) in prime_coprime p a.value P (omega arith) a.below
 
-      one : pos a.value *ℤ r.0 ≡ pos 1 +ℤ pos p *ℤ neg_ℤ r.1
-      one =
-          combine ringℤ (pos (gcd a.value p) ∷ r.0 ∷ r.1 ∷ pos a.value ∷ pos p ∷ []) ((⊝ I, v₀ ⊜ v₁ ⊗ v₃ ⊕ v₂ ⊗ v₄) ∷ (I, v₀ ⊜ I) ∷ [])
-          (v₃ ⊗ v₁ ⊜ I ⊕ v₄ ⊗ ⊝ v₂) tt (r.2, (ap pos common, tt))
+      x : ℤ
+      x = (bezout a.value p).0
+
+      y : ℤ
+      y = (bezout a.value p).1
+
+      one : pos a.value *ℤ x ≡ pos 1 +ℤ pos p *ℤ neg_ℤ y
+      one = adding (neg_ℤ (pos 1)) (sym (bezout a.value p).2 ∙ ap pos common) (rw (parts x, parts y) (simp differences (omega naturals)))
 
   pub times_r_over : (a : Rem p) → a ≢ zero_r p P.0 → times_r p P.0 a (over_r p P.0 a) ≡ one_r p P.0
   unfolding over_r
-  times_r_over a n =
-      same_of p P.0 (pos (a.value * f)) (pos (a.value * f)) _ (one_r p P.0) refl
-      (times_of p P.0 _ _ a (over_r p P.0 a) (own_of p P.0 a) (mod_of p f (pos f) (self_of p f)))
-      (subst (Of p (pos (a.value * f))) found (mod_of p (a.value * f) (pos (a.value * f)) (self_of p (a.value * f))))
+  times_r_over a n = Rem_path (times_r p P.0 a (over_r p P.0 a)) (one_r p P.0) (mul-mod_second a.value (first_from p a.value p 0) p ∙ found)
     where
-      f : ℕ
-      f = first_from p a.value p 0
-
       b : (b : Rem p) × (times_r p P.0 a b ≡ one_r p P.0)
       b = inverse a n
 
-      found : a.value * f % p ≡ 1
+      found : a.value * first_from p a.value p 0 % p ≡ 1
       found = let l : b.0.value < p = b.0.below in first_found p a.value p 0 b.0.value (omega arith) (omega arith) (ap (λ (x : Rem p). x.value) b.1)
 
   pub heavier_r_zero : (a : Rem p) → heavier_r p P.0 a (zero_r p P.0) ≡ false → a ≡ zero_r p P.0
@@ -114,4 +101,4 @@ module _ (p : ℕ) (P : Prime p) where
 
   -- the reciprocal is the only value that gives 1
   pub over_by_product : (a b : Rem p) → times_r p P.0 a b ≡ one_r p P.0 → b ≡ over_r p P.0 a
-  over_by_product a b e = over_unique field_r a b (λ z. one_r_zero p P.0 (sym e ∙ ap (λ (x : Rem p). times_r p P.0 x b) z ∙ zero_times (ring_of field_r) b)) e
+  over_by_product = over_unique field_r

@@ -1,3 +1,4 @@
+pub mod Equations
 pub mod Ring
 pub mod RingInt
 pub mod GcdLaws

@@ -1,10 +1,9 @@
 -- A prime has nothing in common with a number between 0 and it. Assumes nothing.
-use Rattle.std.proofs.Common.{◌≡◌, ℕ, suc, ◌+◌, ◌-◌, ◌%◌, ◌<◌, ◌≤◌, Bool, true, not, ◌&&◌, eqb, ◌⊎◌, sym, ap, ◌∙◌, subst, inl, inr, ⊎_elim, arith}
-use Prim.Native.Nat as Nat
+use Rattle.std.proofs.Common.{◌≡◌, ℕ, zero, suc, ◌+◌, ◌-◌, ◌%◌, ◌<◌, ◌≤◌, Bool, true, not, ◌&&◌, eqb, ◌⊎◌, refl, subst, inl, inr, ⊎_elim, arith}
 use Prim.Native.Nat.{◌∣◌}
-use native.Mathlib.Nat.{le_of_dvd, eq-zero_of_zero-dvd, mod-eq-zero_of_dvd}
+use native.Mathlib.Nat.{le_of_dvd, pos_of_dvd_of_pos, mod-eq-zero_of_dvd}
 use native.Mathlib.Decide.{ℕ_discrete}
-use Rattle.std.proofs.lemmas.Bool.{and_parts, true≢false}
+use Rattle.std.proofs.lemmas.Bool.Decides.{Decides-eqb, Decides-not, Decides-below_and}
 use Rattle.integers.specs.Divisors.{gcd, Prime}
 use Rattle.integers.proofs.GcdLaws.{gcd_left, gcd_right}
 
@@ -13,20 +12,12 @@ prime_coprime p a h l m = ⊎_elim (λ e. e) (λ e. let d : gcd a p ≤ a = le_o
 
 -- none of the numbers from 2 to k + 1 divides p
 abbrev pub none_divides : ℕ → ℕ → Bool
-none_divides p Nat.zero = true
+none_divides p zero = true
 none_divides p (suc k) = not (eqb (p % (k + 2)) 0) && none_divides p k
 
 -- the test finds each divisor
-none_at : (p k d : ℕ) → none_divides p k ≡ true → 2 ≤ d → d < k + 2 → p % d ≡ 0 → ⊥
-none_at p Nat.zero d t l m e = absurd (omega arith)
-none_at p (suc k) d t l m e = go (ℕ_discrete d (k + 2)) (λ f. none_at p k d parts.1 l (omega arith) e)
-  where
-    parts : (not (eqb (p % (k + 2)) 0) ≡ true) × (none_divides p k ≡ true)
-    parts = and_parts (not (eqb (p % (k + 2)) 0)) (none_divides p k) t
-
-    go : Dec (d ≡ k + 2) → ((d ≡ k + 2 → ⊥) → ⊥) → ⊥
-    go (yes f) r = true≢false (sym parts.0 ∙ ap not (ap (λ (x : ℕ). eqb (p % x) 0) (sym f) ∙ ap (λ (x : ℕ). eqb x 0) e))
-    go (no f) r = r f
+none_at : (p k : ℕ) → none_divides p k ≡ true → (j : ℕ) → j < k → ¬ (p % (j + 2) ≡ 0)
+none_at p k = (Decides-below_and (λ j. not (eqb (p % (j + 2)) 0)) (λ j. ¬ (p % (j + 2) ≡ 0)) (none_divides p) (λ j. Decides-not (eqb (p % (j + 2)) 0) (Decides-eqb (p % (j + 2)) 0)) refl (λ _. refl) k).0
 
 pub prime_by_test : (p : ℕ) → 1 < p → none_divides p (p - 2) ≡ true → Prime p
 prime_by_test p l t = (l, λ d h. go d h (ℕ_discrete d 1) (ℕ_discrete d p))
@@ -36,5 +27,6 @@ prime_by_test p l t = (l, λ d h. go d h (ℕ_discrete d 1) (ℕ_discrete d p))
     go d h (no e) (yes f) = inr f
     go d h (no e) (no f) =
         let top : d ≤ p = le_of_dvd (omega arith) h in
-        let low : d ≡ 0 → ⊥ = λ z. let y : p ≡ 0 = eq-zero_of_zero-dvd (subst (λ (x : ℕ). x ∣ p) z h) in omega arith in
-        absurd (none_at p (p - 2) d t (omega arith) (omega arith) (mod-eq-zero_of_dvd d h))
+        let low : 0 < d = pos_of_dvd_of_pos h (omega arith) in
+        let same : d ≡ d - 2 + 2 = omega arith in
+        absurd (none_at p (p - 2) t (d - 2) (omega arith) (subst (λ (x : ℕ). p % x ≡ 0) same (mod-eq-zero_of_dvd d h)))
