@@ -92,21 +92,17 @@ module _ (a c : ℤ) (b d : ℕ) (hb : 0 < b) (hd : 0 < d) (low : gcd (nat_abs a
       ∙ ap₂ (λ (g h : ℕ). gcd (nat_abs (joint a c b d g) / h) (b / g * (d / h))) e (f ∙ gcd-mod (nat_abs (joint a c b d g)) g ∙ ap (λ (g : ℕ). gcd (nat_abs (joint a c b d g)) g) e)
       ∙ lowest_sum
 
--- N (b d) = (a d + c b) (B D), where N h = a D' + c B and B g = b, D h = d, D' g = d
+-- with b = x g, and d = y g as well as z h
+joined : (n a c : ℤ) (b d g h x y z : ℕ) → x * g ≡ b → y * g ≡ d → z * h ≡ d → n *ℤ pos h ≡ a *ℤ pos y +ℤ c *ℤ pos x
+    → n *ℤ pos (b * d) ≡ (a *ℤ pos d +ℤ c *ℤ pos b) *ℤ pos (x * z)
+joined n a c b d g h x y z e f i j =
+    adding (neg_ℤ (pos (x * g * z))) j
+    (adding (neg_ℤ (a *ℤ pos (x * z))) (ap pos (f ∙ sym i)) (rw (← e, ← i, parts n, parts a, parts c) (simp differences (omega naturals))))
+
 pub sum_value : (a c : ℤ) (b d g h : ℕ) → g ∣ b → g ∣ d → h ∣ d → h ∣ nat_abs (joint a c b d g)
     → quot (joint a c b d g) h *ℤ pos (b * d) ≡ (a *ℤ pos d +ℤ c *ℤ pos b) *ℤ pos (b / g * (d / h))
 sum_value a c b d g h gb gd hd ht =
-    adding (neg_ℤ (n *ℤ pos d)) (back b g gb)
-    (adding (neg_ℤ (n *ℤ pos (b / g * g))) (back d h hd)
-    (adding (neg_ℤ (pos (b / g * g * (d / h)))) (quot_times (joint a c b d g) h ht)
-    (adding (a *ℤ pos (b / g * (d / h))) (back d g gd)
-    (adding (c *ℤ pos (b / g * (d / h))) (back b g gb) (rw (parts n, parts a, parts c) (simp differences (omega naturals)))))))
-  where
-    n : ℤ
-    n = quot (joint a c b d g) h
-
-    back : (x g : ℕ) → g ∣ x → pos x ≡ pos (x / g) *ℤ pos g
-    back x g h = ap pos (sym (div-mul_cancel g h))
+    joined (quot (joint a c b d g) h) a c b d g h (b / g) (d / g) (d / h) (div-mul_cancel g gb) (div-mul_cancel g gd) (div-mul_cancel h hd) (quot_times (joint a c b d g) h ht)
 
 -- ---- the sum as it is worked out step by step, where n is the numerator over what is not shared and m its part by h
 module _ (a c : ℤ) (b d : ℕ) (hb : 0 < b) (hd : 0 < d) (low : gcd (nat_abs a) b ≡ 1) (low' : gcd (nat_abs c) d ≡ 1) where
@@ -162,19 +158,14 @@ product_lowest a c b d g h hb hd low low' e f =
         (gcd_comm _ _
         ∙ coprime_times (d / gcd a d) (a / gcd a d) (c / gcd c b) (gcd_comm _ _ ∙ gcd_quotients a d hd) (gcd_comm _ _ ∙ parts c d (gcd c b) (gcd a d) f (gcd_left c b) (gcd_right a d)))
 
+-- with a = m g, c = n h, b = x h and d = y g
+crossed : (m n a c : ℤ) (b d g h x y : ℕ) → m *ℤ pos g ≡ a → n *ℤ pos h ≡ c → x * h ≡ b → y * g ≡ d → (m *ℤ n) *ℤ pos (b * d) ≡ (a *ℤ c) *ℤ pos (x * y)
+crossed m n a c b d g h x y e f i j = rw (← e, ← f, ← i, ← j, parts m, parts n) (simp differences (omega naturals))
+
 pub product_value : (a c : ℤ) (b d g h : ℕ) → g ∣ nat_abs a → g ∣ d → h ∣ nat_abs c → h ∣ b
     → (quot a g *ℤ quot c h) *ℤ pos (b * d) ≡ (a *ℤ c) *ℤ pos (b / h * (d / g))
 product_value a c b d g h ga gd hc hb =
-    adding (neg_ℤ (m *ℤ n *ℤ pos d)) (ap pos (sym (div-mul_cancel h hb)))
-    (adding (neg_ℤ (m *ℤ n *ℤ pos (b / h * h))) (ap pos (sym (div-mul_cancel g gd)))
-    (adding (neg_ℤ (n *ℤ pos (h * (b / h * (d / g))))) (quot_times a g ga)
-    (adding (neg_ℤ (a *ℤ pos (b / h * (d / g)))) (quot_times c h hc) (rw (parts m, parts n, parts a, parts c) (simp differences (omega naturals))))))
-  where
-    m : ℤ
-    m = quot a g
-
-    n : ℤ
-    n = quot c h
+    crossed (quot a g) (quot c h) a c b d g h (b / h) (d / g) (quot_times a g ga) (quot_times c h hc) (div-mul_cancel h hb) (div-mul_cancel g gd)
 
 -- ---- the product as it is worked out step by step
 module _ (a c : ℤ) (b d g h : ℕ) (m : ℤ) (hb : 0 < b) (hd : 0 < d) (low : gcd (nat_abs a) b ≡ 1) (low' : gcd (nat_abs c) d ≡ 1)

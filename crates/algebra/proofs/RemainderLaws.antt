@@ -62,13 +62,13 @@ module _ (p : ℕ) (h : 1 < p) where
   pub times_of : (z w : ℤ) (a b : Rem p) → Of p z a.value → Of p w b.value → Of p (z *ℤ w) (times_r p h a b).value
   times_of z w a b (j, d) (k, e) = mod_of p (a.value * b.value) (z *ℤ w) (
     j *ℤ w +ℤ pos a.value *ℤ k,
-    adding (neg_ℤ w) d (adding (neg_ℤ (pos a.value)) e (rw (parts z, parts w, parts j, parts k) (simp differences (omega naturals)))),
+    rw (d, e, parts j, parts k) (simp differences (omega naturals)),
   )
 
   pub minus_of : (z : ℤ) (a : Rem p) → Of p z a.value → Of p (neg_ℤ z) (minus_r p h a).value
   minus_of z a (j, d) = mod_of p (p - a.value) (neg_ℤ z) (
     neg_ℤ j +ℤ neg_ℤ (pos 1),
-    adding (pos 1) d (adding (pos 1) (ap pos rest) (rw (parts z, parts j) (simp differences (omega naturals)))),
+    adding (pos 1) (ap pos rest) (rw (d, parts j) (simp differences (omega naturals))),
   )
     where
       rest : p - a.value + a.value ≡ p
