@@ -1,5 +1,5 @@
 -- Exact fractions are a field with a weight: heavier is what lies further from zero. Assumes nothing.
-use Rattle.std.proofs.Common.{◌≡◌, ℕ, ◌*◌, ◌<◌, ◌≤◌, true, false, ℤ, ◌+ℤ◌, nat_abs, sym, ap, ◌∙◌, mul-le-mul_right, mul_assoc, mul_comm, lt_of_mul-lt-mul_right, mul-lt-mul_of_pos_right, zero-mul, mul-one, le_of_mul-le-mul_right, arith}
+use Rattle.std.proofs.Common.{◌≡◌, ℕ, ◌*◌, ◌<◌, ◌≤◌, true, false, ℤ, ◌+ℤ◌, nat_abs, sym, ◌∙◌, mul-le-mul_right, lt_of_mul-lt-mul_right, mul-lt-mul_of_pos_right, le_of_mul-le-mul_right, arith}
 use Rattle.std.proofs.lemmas.Bool.{ltb-true, ltb-false, lt-ltb, le-ltb}
 use Rattle.integers.proofs.Sizes.{unsigned_abs_zero}
 use Rattle.integers.proofs.Equations.{parts, differences, naturals}
@@ -7,18 +7,11 @@ use Rattle.algebra.specs.Field.{Field}
 use Rattle.algebra.specs.Fraction.{Q, plus_q, times_q, minus_q, zero_q, one_q, whole_q, over_q, heavier_q}
 use Rattle.algebra.proofs.FractionLaws.{plus_q_assoc, plus_q_comm, plus_q_zero, plus_q_minus, times_q_assoc, times_q_comm, times_q_one, times_q-plus_q, times_q_over, one_q_zero, Q_set, zero_num, normal_eq, normal_self}
 
--- a factor moved past another
-aside : (a b c : ℕ) → a * b * c ≡ a * c * b
-aside a b c = mul_assoc a b c ∙ ap (λ (x : ℕ). a * x) (mul_comm b c) ∙ sym (mul_assoc a c b)
-
 -- sizes x / d, y / e and z / f, the first above the second and the second above the third
 above_trans : (x d y e z f : ℕ) → 0 < d → 0 < f → y * d < x * e → z * e < y * f → z * d < x * f
 above_trans x d y e z f hd hf h j =
     let a : z * e * d < y * f * d = mul-lt-mul_of_pos_right j hd in
     let b : y * d * f < x * e * f = mul-lt-mul_of_pos_right h hf in
-    let p = aside z e d in
-    let q = aside y f d in
-    let r = aside x e f in
     lt_of_mul-lt-mul_right e (omega arith)
 
 -- and none of them above the next
@@ -26,30 +19,23 @@ level_trans : (x d y e z f : ℕ) → 0 < e → x * e ≤ y * d → y * f ≤ z 
 level_trans x d y e z f he h j =
     let a : x * e * f ≤ y * d * f = mul-le-mul_right f h in
     let b : y * f * d ≤ z * e * d = mul-le-mul_right d j in
-    let p = aside x e f in
-    let q = aside y f d in
-    let r = aside z e d in
     le_of_mul-le-mul_right {k = e} (omega arith) he
 
 pub heavier_trans : (a b c : Q) → heavier_q a b ≡ true → heavier_q b c ≡ true → heavier_q a c ≡ true
 heavier_trans a b c h j =
     lt-ltb (nat_abs c.num * a.den) (nat_abs a.num * c.den)
-    (above_trans (nat_abs a.num) a.den (nat_abs b.num) b.den (nat_abs c.num) c.den a.den_pos c.den_pos
-    (ltb-true (nat_abs b.num * a.den) (nat_abs a.num * b.den) h) (ltb-true (nat_abs c.num * b.den) (nat_abs b.num * c.den) j))
+    (above_trans (nat_abs a.num) a.den (nat_abs b.num) b.den (nat_abs c.num) c.den a.den_pos c.den_pos (ltb-true _ _ h) (ltb-true _ _ j))
 
 pub heavier_neg : (a b c : Q) → heavier_q a b ≡ false → heavier_q b c ≡ false → heavier_q a c ≡ false
 heavier_neg a b c h j =
     le-ltb (nat_abs c.num * a.den) (nat_abs a.num * c.den)
-    (level_trans (nat_abs a.num) a.den (nat_abs b.num) b.den (nat_abs c.num) c.den b.den_pos
-    (ltb-false (nat_abs b.num * a.den) (nat_abs a.num * b.den) h) (ltb-false (nat_abs c.num * b.den) (nat_abs b.num * c.den) j))
+    (level_trans (nat_abs a.num) a.den (nat_abs b.num) b.den (nat_abs c.num) c.den b.den_pos (ltb-false _ _ h) (ltb-false _ _ j))
 
 pub heavier_zero : (a : Q) → heavier_q a zero_q ≡ false → a ≡ zero_q
-heavier_zero a h =
-    zero_num a (unsigned_abs_zero a.num
-    (let l = ltb-false (0 * a.den) (nat_abs a.num * 1) h in let e = zero-mul a.den in let f = mul-one (nat_abs a.num) in omega arith))
+heavier_zero a h = zero_num a (unsigned_abs_zero a.num (omega (arith, ltb-false _ _ h)))
 
 pub zero_heavier : (a : Q) → heavier_q zero_q a ≡ false
-zero_heavier a = le-ltb (nat_abs a.num * 1) (0 * a.den) (let e = zero-mul a.den in omega arith)
+zero_heavier a = le-ltb (nat_abs a.num * 1) (0 * a.den) (omega arith)
 
 abbrev pub field_q : Field Q
 field_q = record {
