@@ -1,6 +1,7 @@
 -- Exact fractions are a field with a weight: heavier is what lies further from zero. Assumes nothing.
 use Rattle.std.proofs.Common.{◌≡◌, ℕ, ◌*◌, ◌<◌, ◌≤◌, true, false, ℤ, ◌+ℤ◌, nat_abs, sym, ◌∙◌, mul-le-mul_right, lt_of_mul-lt-mul_right, mul-lt-mul_of_pos_right, le_of_mul-le-mul_right, arith}
-use Rattle.std.proofs.lemmas.Bool.{ltb-true, ltb-false, lt-ltb, le-ltb}
+use Rattle.std.proofs.lemmas.Bool.{ltb-false, le-ltb}
+use Rattle.std.proofs.lemmas.Bool.Decides.{nat_tests}
 use Rattle.integers.proofs.Sizes.{unsigned_abs_zero}
 use Rattle.integers.proofs.Equations.{parts, differences, naturals}
 use Rattle.algebra.specs.Field.{Field}
@@ -9,27 +10,18 @@ use Rattle.algebra.proofs.FractionLaws.{plus_q_assoc, plus_q_comm, plus_q_zero, 
 
 -- sizes x / d, y / e and z / f, the first above the second and the second above the third
 above_trans : (x d y e z f : ℕ) → 0 < d → 0 < f → y * d < x * e → z * e < y * f → z * d < x * f
-above_trans x d y e z f hd hf h j =
-    let a : z * e * d < y * f * d = mul-lt-mul_of_pos_right j hd in
-    let b : y * d * f < x * e * f = mul-lt-mul_of_pos_right h hf in
-    lt_of_mul-lt-mul_right e (omega arith)
+above_trans x d y e z f hd hf h j = lt_of_mul-lt-mul_right e (omega (arith, mul-lt-mul_of_pos_right j hd, mul-lt-mul_of_pos_right h hf))
 
 -- and none of them above the next
 level_trans : (x d y e z f : ℕ) → 0 < e → x * e ≤ y * d → y * f ≤ z * e → x * f ≤ z * d
-level_trans x d y e z f he h j =
-    let a : x * e * f ≤ y * d * f = mul-le-mul_right f h in
-    let b : y * f * d ≤ z * e * d = mul-le-mul_right d j in
-    le_of_mul-le-mul_right {k = e} (omega arith) he
+level_trans x d y e z f he h j = le_of_mul-le-mul_right {k = e} (omega (arith, mul-le-mul_right f h, mul-le-mul_right d j)) he
 
 pub heavier_trans : (a b c : Q) → heavier_q a b ≡ true → heavier_q b c ≡ true → heavier_q a c ≡ true
-heavier_trans a b c h j =
-    lt-ltb (nat_abs c.num * a.den) (nat_abs a.num * c.den)
-    (above_trans (nat_abs a.num) a.den (nat_abs b.num) b.den (nat_abs c.num) c.den a.den_pos c.den_pos (ltb-true _ _ h) (ltb-true _ _ j))
+heavier_trans a b c h j = let p = a.den_pos in let q = c.den_pos in grind (arith, nat_tests, above_trans)
 
 pub heavier_neg : (a b c : Q) → heavier_q a b ≡ false → heavier_q b c ≡ false → heavier_q a c ≡ false
 heavier_neg a b c h j =
-    le-ltb (nat_abs c.num * a.den) (nat_abs a.num * c.den)
-    (level_trans (nat_abs a.num) a.den (nat_abs b.num) b.den (nat_abs c.num) c.den b.den_pos (ltb-false _ _ h) (ltb-false _ _ j))
+    le-ltb _ _ (level_trans (nat_abs a.num) a.den (nat_abs b.num) b.den (nat_abs c.num) c.den b.den_pos (ltb-false _ _ h) (ltb-false _ _ j))
 
 pub heavier_zero : (a : Q) → heavier_q a zero_q ≡ false → a ≡ zero_q
 heavier_zero a h = zero_num a (unsigned_abs_zero a.num (omega (arith, ltb-false _ _ h)))

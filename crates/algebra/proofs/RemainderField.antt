@@ -1,6 +1,6 @@
 -- The remainders by a prime are a field. Assumes nothing.
 use Rattle.std.proofs.Common.{◌≡◌, ℕ, zero, suc, ◌+◌, ◌*◌, ◌%◌, ◌<◌, ◌≤◌, Bool, true, false, not, ◌&&◌, eqb, ◌≢◌, ℤ, pos, ◌+ℤ◌, ◌*ℤ◌, neg_ℤ, sym, refl, ap, ◌∙◌, arith}
-use Rattle.std.proofs.lemmas.Bool.{eqb-true, eqb-false, true≢false}
+use Rattle.std.proofs.lemmas.Bool.Decides.{nat_tests}
 use Rattle.std.proofs.lemmas.Nat.{mul-mod_second}
 use Rattle.integers.specs.Divisors.{gcd, Prime}
 use Rattle.integers.proofs.Primes.{prime_coprime}
@@ -14,37 +14,25 @@ use Rattle.algebra.proofs.RemainderLaws.{Rem_path, Rem_set, self_of, same_of, ti
 -- the search finds a number where there is one
 first_found : (p a k b w : ℕ) → b ≤ w → w < b + k → a * w % p ≡ 1 → a * first_from p a k b % p ≡ 1
 first_found p a zero b w l m e = absurd (omega arith)
-first_found p a (suc k) b w l m e = go (eqb (a * b % p) 1) refl (λ n. first_found p a k (suc b) w n (omega arith) e)
-  where
-    go : (t : Bool) → eqb (a * b % p) 1 ≡ t → (suc b ≤ w → a * first_from p a k (suc b) % p ≡ 1) → a * elim t [ true ↦ b | false ↦ first_from p a k (suc b) ] % p ≡ 1
-    go true f r = eqb-true _ _ f
-    go false f r = let n : b ≢ w = λ q. eqb-false _ _ f (ap (λ (x : ℕ). a * x % p) q ∙ e) in r (omega arith)
+first_found p a (suc k) b w l m e = grind (arith, nat_tests, first_found p a k (suc b) w)
 
 -- ---- the weights, over the two tests whether a value is zero
 pub weight_irr : (a : Bool) → (not a && a) ≡ false
-weight_irr true = refl
-weight_irr false = refl
+weight_irr a = grind arith
 
 pub weight_trans : (a b c : Bool) → (not a && b) ≡ true → (not b && c) ≡ true → (not a && c) ≡ true
-weight_trans true b c e f = e
-weight_trans false true c e f = absurd (true≢false (sym f))
-weight_trans false false c e f = absurd (true≢false (sym e))
+weight_trans a b c e f = grind arith
 
 pub weight_neg : (a b c : Bool) → (not a && b) ≡ false → (not b && c) ≡ false → (not a && c) ≡ false
-weight_neg true b c e f = refl
-weight_neg false true c e f = absurd (true≢false e)
-weight_neg false false c e f = f
+weight_neg a b c e f = grind arith
 
 module _ (p : ℕ) (P : Prime p) where
-  value_zero : (a : Rem p) → a.value ≡ 0 → a ≡ zero_r p P.0
-  value_zero a e = Rem_path a (zero_r p P.0) e
-
   -- the factor of a in the combination of a and p that is 1
   inverse : (a : Rem p) → a ≢ zero_r p P.0 → (b : Rem p) × (times_r p P.0 a b ≡ one_r p P.0)
   inverse a n = (whole_r p P.0 x, same_of p P.0 _ _ (one_r p P.0) (times_of p P.0 _ _ a (whole_r p P.0 x) (self_of p a.value) (whole_of p P.0 x)) (neg_ℤ y, one))
     where
       common : gcd a.value p ≡ 1
-      common = let m : a.value ≢ 0 = λ e. n (value_zero a e) in prime_coprime p a.value P (omega arith) a.below
+      common = let m : a.value ≢ 0 = λ e. n (Rem_path a (zero_r p P.0) e) in prime_coprime p a.value P (omega arith) a.below
 
       x : ℤ
       x = (bezout a.value p).0
@@ -66,11 +54,7 @@ module _ (p : ℕ) (P : Prime p) where
       found = let l : b.0.value < p = b.0.below in first_found p a.value p 0 b.0.value (omega arith) (omega arith) (ap (λ (x : Rem p). x.value) b.1)
 
   pub heavier_r_zero : (a : Rem p) → heavier_r p P.0 a (zero_r p P.0) ≡ false → a ≡ zero_r p P.0
-  heavier_r_zero a e = go (eqb a.value 0) refl e
-    where
-      go : (t : Bool) → eqb a.value 0 ≡ t → (not t && true) ≡ false → a ≡ zero_r p P.0
-      go true f e = value_zero a (eqb-true _ _ f)
-      go false f e = absurd (true≢false e)
+  heavier_r_zero a e = Rem_path a (zero_r p P.0) (grind (arith, nat_tests))
 
   abbrev pub field_r : Field (Rem p)
   field_r = record {
