@@ -1,7 +1,7 @@
 -- Numbers without a divisor in common. Assumes nothing.
 use Rattle.std.proofs.Common.{◌≡◌, ℕ, ◌*◌, ℤ, pos, ◌+ℤ◌, ◌*ℤ◌, neg_ℤ, nat_abs, sym, ap, ◌∙◌, subst}
 use Prim.Native.Nat.{◌∣◌}
-use native.Mathlib.Nat.{dvd_trans, dvd-mul_left_of_dvd, eq-one_of_dvd-one, dvd-mul_left}
+use native.Mathlib.Nat.{dvd_refl, dvd_trans, dvd-mul_left_of_dvd, eq-one_of_dvd-one, dvd-mul_left}
 use Rattle.std.proofs.lemmas.Int.{unsigned_abs-mul}
 use Rattle.integers.specs.Divisors.{gcd}
 use Rattle.integers.proofs.GcdLaws.{gcd_left, gcd_right, gcd_dvd, gcd_unique, gcd_comm, coprime_dvd}
@@ -13,16 +13,16 @@ use Rattle.integers.proofs.Equations.{parts, differences, naturals, adding}
 pub coprime_common : (a b k : ℕ) → gcd a b ≡ 1 → k ∣ a → k ∣ b → k ≡ 1
 coprime_common a b k e h j = eq-one_of_dvd-one (subst (λ (x : ℕ). k ∣ x) e (gcd_dvd a b k h j))
 
--- a number has nothing in common with what divides a number that it has nothing in common with
-pub coprime_part : (a b d : ℕ) → gcd a b ≡ 1 → d ∣ b → gcd a d ≡ 1
-coprime_part a b d e h = coprime_common a b (gcd a d) e (gcd_left a d) (dvd_trans (gcd a d) (gcd_right a d) h)
+-- what divides one of them has nothing in common with what divides the other
+pub coprime_parts : (a b c d : ℕ) → gcd a b ≡ 1 → c ∣ a → d ∣ b → gcd c d ≡ 1
+coprime_parts a b c d e h j = coprime_common a b (gcd c d) e (dvd_trans (gcd c d) (gcd_left c d) h) (dvd_trans (gcd c d) (gcd_right c d) j)
 
 -- a factor that has nothing in common with a number adds nothing to what the other factor has in common with it
 pub gcd_times_coprime : (a b c : ℕ) → gcd a b ≡ 1 → gcd a (b * c) ≡ gcd a c
 gcd_times_coprime a b c e =
     gcd_unique a c k (
       gcd_left a (b * c),
-      coprime_dvd b k c (coprime_part b a k (gcd_comm b a ∙ e) (gcd_left a (b * c))) (gcd_right a (b * c)),
+      coprime_dvd b k c (coprime_parts b a b k (gcd_comm b a ∙ e) (dvd_refl b) (gcd_left a (b * c))) (gcd_right a (b * c)),
       λ d h j. gcd_dvd a (b * c) d h (dvd-mul_left_of_dvd d j b),
     )
   where
@@ -32,6 +32,9 @@ gcd_times_coprime a b c e =
 -- nor has it anything in common with a product of two such
 pub coprime_times : (a b c : ℕ) → gcd a b ≡ 1 → gcd a c ≡ 1 → gcd a (b * c) ≡ 1
 coprime_times a b c e f = gcd_times_coprime a b c e ∙ f
+
+pub coprime_four : (a b c d : ℕ) → gcd a c ≡ 1 → gcd a d ≡ 1 → gcd b c ≡ 1 → gcd b d ≡ 1 → gcd (a * b) (c * d) ≡ 1
+coprime_four a b c d e f h j = gcd_comm _ _ ∙ coprime_times (c * d) a b (gcd_comm _ _ ∙ coprime_times a c d e f) (gcd_comm _ _ ∙ coprime_times b c d h j)
 
 -- a number divides the size of each of its multiples
 pub dvd_multiple : (d : ℕ) (z k : ℤ) → z ≡ k *ℤ pos d → d ∣ nat_abs z

@@ -50,6 +50,10 @@ gcd-mod a b = gcd_unique a b (gcd (a % b) b) (IsGcd-from_mod a b (gcd (a % b) b)
 pub gcd_pos : (a b : ℕ) → 0 < b → 0 < gcd a b
 gcd_pos a b h = pos_of_dvd_of_pos (gcd_right a b) h
 
+-- what the greatest is called by another name
+pub divides_both : (g a b : ℕ) → g ≡ gcd a b → (g ∣ a) × (g ∣ b)
+divides_both g a b e = rw e (gcd_left a b, gcd_right a b)
+
 -- a common divisor with a number above 0 is above 0
 pub divisor_pos : (g a b : ℕ) → g ≡ gcd a b → 0 < b → 0 < g
 divisor_pos g a b e h = subst (λ (x : ℕ). 0 < x) (sym e) (gcd_pos a b h)
@@ -73,8 +77,12 @@ gcd_times a b c m h j = times_by (suc b) a b c m h j
 pub coprime_dvd : (a b m : ℕ) → gcd a b ≡ 1 → b ∣ a * m → b ∣ m
 coprime_dvd a b m e h = subst (λ (x : ℕ). b ∣ x) (ap (λ (x : ℕ). x * m) e ∙ one-mul m) (gcd_times a b b m h (dvd-mul_right b m))
 
+-- a quotient divides what it is of
+pub quot_dvd : (a g : ℕ) → g ∣ a → a / g ∣ a
+quot_dvd a g d = subst (λ (x : ℕ). a / g ∣ x) (div-mul_cancel g d) (dvd-mul_right (a / g) g)
+
 pub quot_pos : (b g : ℕ) → g ∣ b → 0 < b → 0 < b / g
-quot_pos b g d h = pos_of_dvd_of_pos {m = b / g} (subst (λ (x : ℕ). b / g ∣ x) (div-mul_cancel g d) (dvd-mul_right (b / g) g)) h
+quot_pos b g d h = pos_of_dvd_of_pos (quot_dvd b g d) h
 
 -- the quotients by the divisor have no common divisor
 pub gcd_quotients : (a b : ℕ) → 0 < b → gcd (a / gcd a b) (b / gcd a b) ≡ 1
@@ -88,3 +96,6 @@ gcd_quotients a b h = eq-one_of_dvd-one (dvd_of_mul-dvd-mul_left k (gcd_pos a b 
 
     times : {x : ℕ} → g ∣ x → k ∣ x / g → g * k ∣ x
     times {x} d h = subst (λ (y : ℕ). g * k ∣ y) (mul-div_cancel' g d) (mul-dvd-mul_left k g h)
+
+pub coprime_quotients : (a b g : ℕ) → g ≡ gcd a b → 0 < b → gcd (a / g) (b / g) ≡ 1
+coprime_quotients a b g e h = rw e (gcd_quotients a b h)
