@@ -2,11 +2,11 @@
 --     quot z g          z divided by g, the sign kept
 --     with_sign z n     n with the sign of z
 --     none z            z is 0
-use Rattle.std.specs.Prelude.{ℕ, suc, ◌/◌, Bool, ℤ, pos, negsuc, neg_ℤ, ◌==◌, unsigned_abs}
+use Rattle.std.specs.Prelude.{ℕ, suc, Bool, ℤ, pos, negsuc, neg_ℤ, ◌==◌, unsigned_abs}
+use Rattle.std.specs.Int.RustNames.{int_div}
 
 abbrev pub quot : ℤ → ℕ → ℤ
-quot (pos n) g = pos (n / g)
-quot (negsuc n) g = neg_ℤ (pos (suc n / g))
+quot z g = int_div z (pos g)
 
 abbrev pub with_sign : ℤ → ℕ → ℤ
 with_sign (pos n) k = pos k
