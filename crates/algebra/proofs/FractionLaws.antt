@@ -76,7 +76,7 @@ plus_normal : (a : ℤ) (b : ℕ) (h : 0 < b) (c : ℤ) (d : ℕ) (k : 0 < d)
     → plus_q (normal a b h) (normal c d k) ≡ normal (a *ℤ pos d +ℤ c *ℤ pos b) (b * d) (mul-pos h k)
 unfolding plus_q
 plus_normal a b h c d k =
-    normal_eq (p.num *ℤ pos q.den +ℤ q.num *ℤ pos p.den) (p.den * q.den) (mul-pos p.den_pos q.den_pos) (a *ℤ pos d +ℤ c *ℤ pos b) (b * d) (mul-pos h k)
+    normal_eq _ _ _ _ _ _
     (adding (neg_ℤ (pos (q.den * d))) (normal_rep a b h)
     (adding (neg_ℤ (pos (p.den * b))) (normal_rep c d k) (rw (parts p.num, parts q.num, parts a, parts c) (simp differences (omega naturals)))))
   where
@@ -90,7 +90,7 @@ times_normal : (a : ℤ) (b : ℕ) (h : 0 < b) (c : ℤ) (d : ℕ) (k : 0 < d)
     → times_q (normal a b h) (normal c d k) ≡ normal (a *ℤ c) (b * d) (mul-pos h k)
 unfolding times_q
 times_normal a b h c d k =
-    normal_eq (p.num *ℤ q.num) (p.den * q.den) (mul-pos p.den_pos q.den_pos) (a *ℤ c) (b * d) (mul-pos h k)
+    normal_eq _ _ _ _ _ _
     (adding (neg_ℤ (q.num *ℤ pos d)) (normal_rep a b h)
     (adding (neg_ℤ (a *ℤ pos p.den)) (normal_rep c d k) (rw (parts p.num, parts q.num, parts a, parts c) (simp differences (omega naturals)))))
   where
@@ -107,39 +107,31 @@ as_normal f q = ap f (sym (normal_self q))
 -- ---- the laws
 pub plus_q_comm : (p q : Q) → plus_q p q ≡ plus_q q p
 unfolding plus_q
-plus_q_comm p q =
-    normal_eq (p.num *ℤ pos q.den +ℤ q.num *ℤ pos p.den) (p.den * q.den) (mul-pos p.den_pos q.den_pos)
-    (q.num *ℤ pos p.den +ℤ p.num *ℤ pos q.den) (q.den * p.den) (mul-pos q.den_pos p.den_pos)
-    (rw (parts p.num, parts q.num) (simp differences (omega naturals)))
+plus_q_comm p q = normal_eq _ _ _ _ _ _ (rw (parts p.num, parts q.num) (simp differences (omega naturals)))
 
 pub times_q_comm : (p q : Q) → times_q p q ≡ times_q q p
 unfolding times_q
-times_q_comm p q =
-    normal_eq (p.num *ℤ q.num) (p.den * q.den) (mul-pos p.den_pos q.den_pos) (q.num *ℤ p.num) (q.den * p.den) (mul-pos q.den_pos p.den_pos)
-    (rw (parts p.num, parts q.num) (simp differences (omega naturals)))
+times_q_comm p q = normal_eq _ _ _ _ _ _ (rw (parts p.num, parts q.num) (simp differences (omega naturals)))
 
 pub plus_q_assoc : (p q r : Q) → plus_q (plus_q p q) r ≡ plus_q p (plus_q q r)
 unfolding plus_q
 plus_q_assoc p q r =
     as_normal (plus_q (plus_q p q)) r ∙ plus_normal _ _ _ _ _ _
-    ∙ normal_eq _ _ _ _ _ _
-    (rw (parts p.num, parts q.num, parts r.num) (simp differences (omega naturals)))
+    ∙ normal_eq _ _ _ _ _ _ (rw (parts p.num, parts q.num, parts r.num) (simp differences (omega naturals)))
     ∙ sym (as_normal (λ x. plus_q x (plus_q q r)) p ∙ plus_normal _ _ _ _ _ _)
 
 pub times_q_assoc : (p q r : Q) → times_q (times_q p q) r ≡ times_q p (times_q q r)
 unfolding times_q
 times_q_assoc p q r =
     as_normal (times_q (times_q p q)) r ∙ times_normal _ _ _ _ _ _
-    ∙ normal_eq _ _ _ _ _ _
-    (rw (parts p.num, parts q.num, parts r.num) (simp differences (omega naturals)))
+    ∙ normal_eq _ _ _ _ _ _ (rw (parts p.num, parts q.num, parts r.num) (simp differences (omega naturals)))
     ∙ sym (as_normal (λ x. times_q x (times_q q r)) p ∙ times_normal _ _ _ _ _ _)
 
 pub times_q-plus_q : (p q r : Q) → times_q p (plus_q q r) ≡ plus_q (times_q p q) (times_q p r)
 unfolding times_q plus_q
 times_q-plus_q p q r =
     as_normal (λ x. times_q x (plus_q q r)) p ∙ times_normal _ _ _ _ _ _
-    ∙ normal_eq _ _ _ _ _ _
-    (rw (parts p.num, parts q.num, parts r.num) (simp differences (omega naturals)))
+    ∙ normal_eq _ _ _ _ _ _ (rw (parts p.num, parts q.num, parts r.num) (simp differences (omega naturals)))
     ∙ sym (plus_normal _ _ _ _ _ _)
 
 pub plus_q_zero : (p : Q) → plus_q p zero_q ≡ p
