@@ -2,7 +2,7 @@
 --     quot z g          z divided by g, the sign kept
 --     with_sign z n     n with the sign of z
 --     none z            z is 0
-use Rattle.std.specs.Prelude.{ℕ, suc, Bool, ℤ, pos, negsuc, neg_ℤ, ◌==◌, unsigned_abs}
+use Rattle.std.specs.Prelude.{ℕ, Bool, ℤ, pos, negsuc, neg_ℤ, ◌==◌, unsigned_abs}
 use Rattle.std.specs.Int.RustNames.{int_div}
 
 abbrev pub quot : ℤ → ℕ → ℤ
