@@ -1,36 +1,31 @@
 -- Counting with remainders as numbers: the step of Euclid's rule that finds a reciprocal, and what the numbers tell of the remainders. Assumes nothing.
-use Rattle.std.proofs.Common.{◌≡◌, ℕ, ◌+◌, ◌-◌, ◌*◌, ◌/◌, ◌%◌, ◌<◌, ◌≢◌, ◌==◌, Decides, [], ◌∷◌, ℤ, pos, ◌+ℤ◌, ◌*ℤ◌, neg_ℤ, ap, ◌∙◌, mod-lt, arith}
+use Rattle.std.proofs.Common.{◌≡◌, ℕ, ◌+◌, ◌-◌, ◌*◌, ◌/◌, ◌%◌, ◌<◌, ◌≢◌, ◌==◌, Decides, ℤ, pos, ◌+ℤ◌, ◌*ℤ◌, neg_ℤ, ap, ◌∙◌, mod-lt, arith}
 use native.Mathlib.Nat.{div-add-mod}
 use Rattle.std.proofs.Math.Bridge.{le_prop}
 use Rattle.std.proofs.lemmas.Bool.Decides.{Decides-eqb, Decides-like}
 use Rattle.integers.specs.Divisors.{gcd, Prime}
 use Rattle.integers.proofs.Primes.{prime_coprime}
-use Rattle.integers.proofs.RingInt.{ringℤ}
-use Rattle.integers.proofs.Ring.{Expr.var, Expr.◌⊕◌, Expr.◌⊖◌, Expr.◌⊗◌, Expr.⊝, Expr.I, Eqn.◌⊜◌, combine, v₀, v₁, v₂, v₃, v₄, v₅}
+use Rattle.integers.proofs.Equations.{parts, differences, naturals, adding}
 use Rattle.algebra.specs.Remainder.{Rem, zero_r, whole_r}
 use Rattle.algebra.proofs.RemainderLaws.{Of, Of_unique, Rem_path, mod_of, self_of}
 
 -- numbers with the same remainder differ by a multiple of m, and the other way round
 apart : (m x y : ℕ) → x % m ≡ y % m → Of m (pos x) y
-apart m x y e = (
-  pos (x / m) +ℤ neg_ℤ (pos (y / m)),
-  combine ringℤ (pos m ∷ pos x ∷ pos y ∷ pos (x / m) ∷ pos (y / m) ∷ pos (x % m) ∷ pos (y % m) ∷ [])
-      ((⊝ I, v₀ ⊗ v₃ ⊕ v₅ ⊜ v₁) ∷ (I, v₀ ⊗ v₄ ⊕ var 6 ⊜ v₂) ∷ (I, v₅ ⊜ var 6) ∷ []) (v₁ ⊜ v₂ ⊕ v₀ ⊗ (v₃ ⊖ v₄)) tt
-      (ap pos (div-add-mod x m), (ap pos (div-add-mod y m), (ap pos e, tt))),
-)
+apart m x y e = (pos (x / m) +ℤ neg_ℤ (pos (y / m)), simp differences (omega (naturals, div-add-mod x m, div-add-mod y m)))
 
 same : (m x y : ℕ) → 0 < m → Of m (pos x) y → x % m ≡ y % m
 same m x y l o = Of_unique m (pos x) (x % m) (y % m) (mod-lt x l) (mod-lt y l) (mod_of m x (pos x) (self_of m x)) (mod_of m y (pos x) o)
 
+-- high is q low + r, and each number on the left is the one on the right but for a multiple of m: so is a f that of r
+left_over : (m a hf lf high low q r s t f : ℕ) (u v x y : ℤ) → low * q + r ≡ high → t + s ≡ m → pos (hf + t) ≡ pos f +ℤ pos m *ℤ u → pos (q * lf) ≡ pos s +ℤ pos m *ℤ v
+    → pos (a * hf) ≡ pos high +ℤ pos m *ℤ x → pos (a * lf) ≡ pos low +ℤ pos m *ℤ y → pos (a * f) ≡ pos r +ℤ pos m *ℤ (pos a +ℤ x +ℤ pos a *ℤ v +ℤ neg_ℤ (pos a *ℤ u) +ℤ neg_ℤ (pos q *ℤ y))
+left_over m a hf lf high low q r s t f u v x y split whole e g h j =
+    adding (pos a) e (adding (neg_ℤ (pos a)) (ap pos whole) (adding (neg_ℤ (pos a)) g (adding (neg_ℤ (pos 1)) h (adding (pos q) j
+    (rw (← split, parts u, parts v, parts x, parts y) (simp differences (omega naturals)))))))
+
 -- where high and low are, but for multiples of m, a times their factors, so is what low leaves of high
 pub rest_of : (m a hf lf high low : ℕ) → 0 < m → a * hf % m ≡ high % m → a * lf % m ≡ low % m → a * ((hf + (m - high / low * lf % m)) % m) % m ≡ (high % low) % m
-rest_of m a hf lf high low l h j = same m (a * f) (high % low) l (
-  pos a +ℤ ho.0 +ℤ pos a *ℤ so.0 +ℤ neg_ℤ (pos a *ℤ fo.0) +ℤ neg_ℤ (pos q *ℤ lo.0),
-  combine ringℤ (pos m ∷ pos a ∷ pos hf ∷ pos lf ∷ pos high ∷ pos low ∷ pos q ∷ pos (high % low) ∷ pos s ∷ pos (m - s) ∷ pos f ∷ fo.0 ∷ so.0 ∷ ho.0 ∷ lo.0 ∷ [])
-      ((⊝ v₁, v₂ ⊕ var 9 ⊜ var 10 ⊕ v₀ ⊗ var 11) ∷ (v₁, var 9 ⊕ var 8 ⊜ v₀) ∷ (v₁, var 6 ⊗ v₃ ⊜ var 8 ⊕ v₀ ⊗ var 12) ∷ (I, v₁ ⊗ v₂ ⊜ v₄ ⊕ v₀ ⊗ var 13) ∷ (⊝ (var 6), v₁ ⊗ v₃ ⊜ v₅ ⊕ v₀ ⊗ var 14) ∷ (⊝ I, v₅ ⊗ var 6 ⊕ var 7 ⊜ v₄) ∷ [])
-      (v₁ ⊗ var 10 ⊜ var 7 ⊕ v₀ ⊗ (v₁ ⊕ var 13 ⊕ v₁ ⊗ var 12 ⊕ ⊝ (v₁ ⊗ var 11) ⊕ ⊝ (var 6 ⊗ var 14))) tt
-      (fo.1, (ap pos whole, (so.1, (ho.1, (lo.1, (ap pos (div-add-mod high low), tt)))))),
-)
+rest_of m a hf lf high low l h j = same m (a * f) (high % low) l (_, left_over m a hf lf high low q (high % low) s (m - s) f fo.0 so.0 ho.0 lo.0 (div-add-mod high low) whole fo.1 so.1 ho.1 lo.1)
   where
     -- how often low goes into high, what that takes from the factor of high, and what is left of it
     q : ℕ
