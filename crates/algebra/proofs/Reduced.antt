@@ -3,7 +3,7 @@
 --     it is t / h over (b / g) (d / h).
 --     Parts of a / b times c / d: with g common to a and d, and h common to c and b,
 --     it is (a / g) (c / h) over (b / h) (d / g).
-use Rattle.std.proofs.Common.{◌≡◌, ℕ, ◌*◌, ◌/◌, ◌%◌, ◌<◌, ◌≢◌, ℤ, pos, ◌+ℤ◌, ◌*ℤ◌, neg_ℤ, nat_abs, sym, refl, ap, ◌∙◌, ap₂, mul_assoc, mul-pos, div-one}
+use Rattle.std.proofs.Common.{◌≡◌, ℕ, ◌*◌, ◌/◌, ◌%◌, ◌<◌, ℤ, pos, ◌+ℤ◌, ◌*ℤ◌, neg_ℤ, nat_abs, sym, refl, ap, ◌∙◌, ap₂, mul_assoc, mul-pos, div-one}
 use Prim.Native.Nat.{◌∣◌}
 use lib.IntN.{+ℤ_comm}
 use native.Mathlib.Nat.{mul-div_assoc, dvd_refl, div-mul_cancel, dvd_trans}
@@ -36,8 +36,8 @@ pub minus_from : (p r : Q) → r.num ≡ neg_ℤ p.num → r.den ≡ p.den → r
 unfolding minus_q
 minus_from p r e f = sym (normal_self r) ∙ normal_eq _ _ _ _ _ _ (ap₂ (λ (x : ℤ) (d : ℕ). x *ℤ pos d) e (sym f))
 
-pub over_from : (p r : Q) → p ≢ zero_q → p.num *ℤ r.num ≡ pos (p.den * r.den) → r ≡ over_q p
-over_from p r n e =
+pub over_from : (p r : Q) → p.num *ℤ r.num ≡ pos (p.den * r.den) → r ≡ over_q p
+over_from p r e =
     over_unique field_q p r (sym (times_from p r one_q (rw e (simp differences (omega naturals)))))
 
 -- ---- the sum

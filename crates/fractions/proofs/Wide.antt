@@ -1,9 +1,9 @@
 -- Products and sums of words in 64 bits: nothing is lost. Assumes nothing.
 use Rattle.std.proofs.Common.{◌≡◌, ℕ, ◌+◌, ◌<◌, ◌≤◌, ℤ, pos, negsuc, ◌+ℤ◌, ◌*ℤ◌, nat_abs, sym, ap, ◌∙◌, subst, ap₂, mul-le-mul, div-le_self, arith, w32, w64, SFits, to_z, of_z}
 use mir.Facts.{sfits_widen}
-use Rattle.std.proofs.lemmas.Int.{to_z-of_z, to_z_pos, ints}
+use Rattle.std.proofs.lemmas.Int.{to_z-of_z, to_z_pos, unsigned_abs-mul, ints}
 use Rattle.integers.specs.Signs.{quot}
-use Rattle.integers.proofs.Sizes.{unsigned_abs-*ℤ, unsigned_abs_quot}
+use Rattle.integers.proofs.Sizes.{unsigned_abs_quot}
 use Rattle.fractions.specs.Terms.{part_limit}
 
 pub size_fits : (z : ℤ) → nat_abs z < 9223372036854775808 → SFits w64 z
@@ -25,7 +25,7 @@ abbrev pub square : ℕ
 square = 4611686014132420609
 
 pub product_size : (a b : ℤ) → nat_abs a ≤ part_limit → nat_abs b ≤ part_limit → nat_abs (a *ℤ b) ≤ square
-product_size a b h k = subst (λ (x : ℕ). x ≤ square) (sym (unsigned_abs-*ℤ a b)) (mul-le-mul {n₁ = nat_abs a} {m₁ = nat_abs b} {n₂ = part_limit} {m₂ = part_limit} h k)
+product_size a b h k = subst (λ (x : ℕ). x ≤ square) (sym (unsigned_abs-mul a b)) (mul-le-mul {n₁ = nat_abs a} {m₁ = nat_abs b} {n₂ = part_limit} {m₂ = part_limit} h k)
 
 -- a word times a word without a sign, in 64 bits
 abbrev pub wide_term : ℤ → ℕ → ℤ
@@ -80,7 +80,7 @@ module _ (a : ℤ) (g : ℕ) (c : ℤ) (h : ℕ) (x y : ℤ) (fa : SFits w32 a) 
       let u = word_size a fa in
       let v = word_size c fc in
       let m = mul-le-mul {n₁ = nat_abs (quot a g)} {m₁ = nat_abs (quot c h)} {n₂ = 2147483648} {m₂ = 2147483648} (omega arith) (omega arith) in
-      let e = unsigned_abs-*ℤ (quot a g) (quot c h) in
+      let e = unsigned_abs-mul (quot a g) (quot c h) in
       omega arith
 
   pub parts_fit : SFits w64 (to_z w64 (of_z w64 x) *ℤ to_z w64 (of_z w64 y))

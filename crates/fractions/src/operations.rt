@@ -2,7 +2,7 @@
 ghost use Rattle.std.specs.Prelude.{◌≡◌, ◌≢◌, ◌/◌, ◌<◌, ◌≤◌, pos, ◌+ℤ◌, ◌*ℤ◌, unsigned_abs};
 ghost use Rattle.fractions.specs.Terms.{part_limit};
 ghost use Rattle.integers.specs.Divisors.{gcd as greatest};
-ghost use Rattle.integers.specs.Signs.{quot, with_sign, none};
+ghost use Rattle.integers.specs.Signs.{quot, with_sign};
 ghost use Rattle.algebra.specs.Fraction.{zero_q, plus_q, times_q, minus_q, over_q};
 ghost use Rattle.fractions.specs.Fractions.{exact_q, lowest_q, misfit_q};
 ghost use Rattle.kinds.specs.Kinds.{Answers};

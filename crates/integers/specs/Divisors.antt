@@ -1,12 +1,8 @@
 -- Divisors of whole numbers. Assumes nothing.
---     Greatest a b g    g divides a and b, and whatever divides both divides g
---     gcd a b           the number that is so
+--     gcd a b           the greatest common divisor: it divides a and b, and whatever divides both divides it
 --     Prime p           p is above 1, and only 1 and p divide it
 use Rattle.std.specs.Prelude.{◌≡◌, ℕ, zero, suc, ◌%◌, ◌<◌, ◌⊎◌}
 use Rattle.std.specs.Int.{◌∣◌}
-
-abbrev pub Greatest : ℕ → ℕ → ℕ → Type 0
-Greatest a b g = (g ∣ a) × (g ∣ b) × ((c : ℕ) → c ∣ a → c ∣ b → c ∣ g)
 
 -- by Euclid's rule; the second number falls with each step, so that one step more than it is enough
 abbrev pub gcd_by : ℕ → ℕ → ℕ → ℕ

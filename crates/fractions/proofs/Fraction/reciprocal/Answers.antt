@@ -27,4 +27,4 @@ returns c =
     let p = to_z-of_z w32 c.args.self.numerator a in
     let m = to_z-of_z w32 c.with_sign_of.result f ∙ c.with_sign_of.ensures ∙ ap (λ (z : ℤ). with_sign z c.args.self.denominator) p in
     let u = c.unsigned_abs.ensures.value ∙ ap nat_abs p in
-    over_from (exact_q c.args.self) _ c.requires (turned_is c.args.self _ c.unsigned_abs.result m u)
+    over_from (exact_q c.args.self) _ (turned_is c.args.self _ c.unsigned_abs.result m u)

@@ -1,11 +1,12 @@
 use Rattle.std.proofs.Common.{◌≡◌, ℕ, ◌%◌, sym, ap, ◌∙◌, subst}
-use Rattle.integers.specs.Divisors.{gcd, Greatest}
+use Rattle.std.specs.Int.{IsGcd}
+use Rattle.integers.specs.Divisors.{gcd}
 use Rattle.integers.proofs.GcdLaws.{gcd_one, gcd_zero, gcd-mod, gcd_comm, gcd_is_greatest}
 use Rattle.fractions.proofs.divisors.gcd.Goals as goal
 use Rattle.fractions.proofs.divisors.gcd.Goals.{then-a-eq1-via-then-a-eq1, then-a-eq1-via-else-a-eq1+then-b-eq1}
 
-meant : (a b r : ℕ) → r ≡ gcd a b → Greatest a b r
-meant a b r e = subst (λ (x : ℕ). Greatest a b x) (sym e) (gcd_is_greatest a b)
+meant : (a b r : ℕ) → r ≡ gcd a b → IsGcd a b r
+meant a b r e = subst (λ (x : ℕ). IsGcd a b x) (sym e) (gcd_is_greatest a b)
 
 pub returns-then-a-eq1 : goal.returns-then-a-eq1
 returns-then-a-eq1 c =
