@@ -9,7 +9,6 @@ ghost use Rattle.fractions.specs.Terms.{part_limit};
 pub(crate) mod divisors;
 pub mod kind;
 pub(crate) mod operations;
-pub(crate) mod parts;
 
 /// A fraction in lowest terms that fits: the denominator is at least 1, and equal fractions are equal structs.
 #[derive(Clone, Copy, PartialEq, Eq, Debug)]
@@ -20,6 +19,24 @@ pub struct Fraction {
     ghost lowest: { gcd (unsigned_abs numerator) denominator ≡ 1 },
     ghost low: { unsigned_abs numerator ≤ part_limit },
     ghost fine: { denominator ≤ part_limit },
+}
+
+impl Fraction {
+    ghost use Rattle.fractions.specs.Fractions.{exact_q};
+
+    /// The numerator in lowest terms, with the sign.
+    pub fn numerator(self) -> i32
+        ensures { result ≡ (exact_q self).num }
+    {
+        self.numerator
+    }
+
+    /// The denominator in lowest terms, at least 1.
+    pub fn denominator(self) -> u32
+        ensures { result ≡ (exact_q self).den }
+    {
+        self.denominator
+    }
 }
 
 /// A result in lowest terms, whether it fits or not.
