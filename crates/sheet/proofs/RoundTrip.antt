@@ -4,21 +4,24 @@ use Rattle.std.proofs.lemmas.List.FromFn.{fill_by_all, map-range_with_len_more}
 use Rattle.std.proofs.ByRecursion.{All-append, All-from_get_or}
 use Rattle.std.proofs.lemmas.Slice.Eq.{bytes_eq-Decides}
 use Rattle.std.proofs.lemmas.List.{take_all, drop-drop}
+use Rattle.std.proofs.lemmas.Grind.{flat_map-append}
 use Rattle.std.proofs.lemmas.Bool.{leb-true, le-leb, eq-eqb, and_from, and_parts, eqb-true}
 use Rattle.std.specs.List.{range_with_len, flat_map, AllByRecursion as All}
 use Rattle.std.specs.Str.{bytes_eq}
+use Rattle.limits.specs.Limits.{coefficient_limit, right_side_limit}
+use Rattle.memory.specs.Over.{over}
+use Rattle.memory.proofs.Pieces.{take-over}
 use Rattle.sheet.specs.declared.format.Counts.{Counts}
 use Rattle.sheet.specs.declared.format.Mark.{Mark}
 use Rattle.sheet.specs.declared.format.Mark.TheVariants.{Frac, Rest}
 use Rattle.sheet.specs.Checks.{judged, after, if_passed}
-use Rattle.sheet.specs.Format.{letters, mark_of, coefficient_limit, right_side_limit, header_fields, line_numbers, form_numbers, forms_start, total_length}
+use Rattle.sheet.specs.Format.{letters, mark_of, header_fields, line_numbers, form_numbers, forms_start, total_length}
 use Rattle.sheet.specs.Numbers.{field_at, number_at, numbers, field_bytes, number_bytes, block_checks}
 use Rattle.sheet.specs.Reading.{Content, counts_of, header_checks, count_checks, layout_checks, line_checks, form_checks, number_checks, lines_in, forms_in, sheet_of}
 use Rattle.sheet.specs.Steps.{HeaderOf, BlockRead}
-use Rattle.sheet.specs.Writing.{over, header_bytes, sheet_bytes, length_checks, write_checks, written, memory_after, WritesAs}
+use Rattle.sheet.specs.Writing.{header_bytes, sheet_bytes, length_checks, write_checks, written, memory_after, WritesAs}
 use Rattle.sheet.proofs.Blocks.{block_holds, length-numbers}
 use Rattle.sheet.proofs.Judged.{Holds, holds_from_judged, judged_from_holds, judged_split}
-use Rattle.sheet.proofs.Over.{flat_map-append, take-over}
 use Rattle.sheet.proofs.SheetOf.{small, lines_pass, sheet_passes}
 use Rattle.sheet.proofs.Words.{field_back, field_at-append, number_at-append, written_at, field_bytes_at, number_bytes_at}
 use Rattle.sheet.proofs.Written.{long, numbers_left, put_all, total_le, length-letters, length-header_bytes, length-numbers_bytes, length-sheet_bytes}

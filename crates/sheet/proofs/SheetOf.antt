@@ -2,12 +2,13 @@
 use Rattle.std.proofs.Common.{◌≡◌, ℕ, ◌+◌, ◌≤◌, true, List, take, ℤ, is_ok, Ok, Err, unwrap_or, sym, ap, ◌∙◌, arith}
 use Rattle.std.proofs.lemmas.Nat.{mul-le}
 use Rattle.std.proofs.lemmas.Bool.{leb-true, and_parts}
+use Rattle.limits.specs.Limits.{most_unknowns}
 use Rattle.sheet.specs.declared.format.Counts.{Counts}
 use Rattle.sheet.specs.declared.format.Mark.{Mark}
 use Rattle.sheet.specs.declared.format.Mark.TheVariants.{Frac}
 use Rattle.sheet.specs.declared.refusal.Refusal.{Refusal}
 use Rattle.sheet.specs.Checks.{judged, after}
-use Rattle.sheet.specs.Format.{most_unknowns, most_lines, most_forms, most_line_numbers, most_form_numbers, line_numbers, form_numbers}
+use Rattle.sheet.specs.Format.{most_lines, most_forms, most_line_numbers, most_form_numbers, line_numbers, form_numbers}
 use Rattle.sheet.specs.Reading.{counts_of, count_checks, line_checks, form_checks, number_checks, lines_in, forms_in, content_of, sheet_of}
 use Rattle.sheet.specs.Steps.{HeaderOf, BlockRead}
 use Rattle.sheet.proofs.Judged.{judged-append, holds_from_judged}

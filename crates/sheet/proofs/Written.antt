@@ -2,6 +2,7 @@
 use Rattle.std.proofs.Common.{◌≡◌, ℕ, ◌+◌, ◌*◌, ◌≤◌, List, ◌++◌, length, ℤ, Ok, refl, ap, ◌∙◌, append_assoc, arith, length-append}
 use Rattle.std.proofs.lemmas.Bool.{leb-true, eqb-true}
 use Rattle.std.specs.List.{flat_map}
+use Rattle.memory.specs.Over.{over}
 use Rattle.sheet.specs.declared.format.Counts.{Counts}
 use Rattle.sheet.specs.declared.format.Mark.{Mark}
 use Rattle.sheet.specs.declared.format.Mark.TheVariants.{Frac, Rest}
@@ -9,9 +10,9 @@ use Rattle.sheet.specs.Checks.{judged, after}
 use Rattle.sheet.specs.Format.{most_length, letters, header_fields, line_numbers, form_numbers, forms_start, total_length}
 use Rattle.sheet.specs.Numbers.{field_bytes, number_bytes}
 use Rattle.sheet.specs.Reading.{Content, count_checks, number_checks}
-use Rattle.sheet.specs.Writing.{over, header_bytes, sheet_bytes, length_checks, write_checks}
+use Rattle.sheet.specs.Writing.{header_bytes, sheet_bytes, length_checks, write_checks}
 use Rattle.sheet.proofs.Judged.{judged-append, holds_from_judged}
-use Rattle.sheet.proofs.Over.{over-over, length-flat_map}
+use Rattle.memory.proofs.Pieces.{over-over, length-flat_map}
 use Rattle.sheet.proofs.SheetOf.{line_numbers_le, form_numbers_le}
 
 -- lengths that pass

@@ -7,15 +7,16 @@
 --     line_numbers c      how many numbers its lines have: n coefficients and a right side each
 --     form_numbers c      how many numbers its forms have: n coefficients each
 --     header_fields c     the six numbers of the header, in their order
-use Rattle.std.specs.Prelude.{ℕ, ◌+◌, ◌*◌, cond, List, [], ◌∷◌, Some, None, codes, Option}
+use Rattle.std.specs.Prelude.{ℕ, ◌+◌, ◌*◌, cond, List, [], ◌∷◌, Some, None, Option}
 use Rattle.std.specs.Str.{bytes_eq}
+use Rattle.limits.specs.Limits.{frac_letters, rest_letters, most_unknowns}
 use Rattle.sheet.specs.declared.format.Counts.{Counts}
 use Rattle.sheet.specs.declared.format.Mark.{Mark}
 use Rattle.sheet.specs.declared.format.Mark.TheVariants.{Frac, Rest}
 
 abbrev pub letters : Mark → List ℕ
-letters Frac = codes "FRAC"
-letters Rest = codes "REST"
+letters Frac = frac_letters
+letters Rest = rest_letters
 
 abbrev pub mark_of : List ℕ → Option Mark
 mark_of bytes = cond (bytes_eq bytes (letters Frac)) (Some Frac) (cond (bytes_eq bytes (letters Rest)) (Some Rest) None)
@@ -24,10 +25,7 @@ mark_of bytes = cond (bytes_eq bytes (letters Frac)) (Some Frac) (cond (bytes_eq
 abbrev pub lines_start : ℕ
 lines_start = 16
 
--- unknowns are 1 to 12, lines and forms at most 40 each
-abbrev pub most_unknowns : ℕ
-most_unknowns = 12
-
+-- unknowns are 1 to `most_unknowns`, lines and forms at most 40 each
 abbrev pub most_lines : ℕ
 most_lines = 40
 
@@ -46,13 +44,6 @@ most_forms_start = lines_start + 4 * most_line_numbers
 
 abbrev pub most_length : ℕ
 most_length = most_forms_start + 4 * most_form_numbers
-
--- a coefficient lies within a million of zero, a right side within a thousand million
-abbrev pub coefficient_limit : ℕ
-coefficient_limit = 1000000
-
-abbrev pub right_side_limit : ℕ
-right_side_limit = 1000000000
 
 -- the bytes at which the fields of the header stand
 abbrev pub unknowns_field : ℕ

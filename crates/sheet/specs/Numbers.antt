@@ -12,7 +12,7 @@ use Rattle.std.proofs.Common.{to_z, of_z}
 use Rattle.std.specs.List.{range_with_len}
 use Rattle.sheet.specs.declared.refusal.Refusal.TheVariants.{Number}
 use Rattle.sheet.specs.Checks.{Check}
-use Rattle.sheet.specs.Format.{coefficient_limit, right_side_limit}
+use Rattle.limits.specs.Limits.{coefficient_limit, right_side_limit}
 
 abbrev pub field_at : List ℕ → ℕ → ℕ
 field_at bytes at = slice_index bytes at + slice_index bytes (at + 1) * 256

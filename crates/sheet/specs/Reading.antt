@@ -4,13 +4,14 @@
 --     sheet_of bs       the content of the sheet bs, or why bs is none
 use Rattle.std.specs.Prelude.{ℕ, ◌+◌, ◌*◌, cond, ◌&&◌, List, [], ◌∷◌, ◌++◌, length, take, drop, ℤ, is_some, Some, None, Ok, Option, Result, ◌==◌, nat_le, nat_lt}
 use Rattle.std.specs.Option.{unwrap_or}
+use Rattle.limits.specs.Limits.{most_unknowns}
 use Rattle.sheet.specs.declared.format.Counts.{Counts}
 use Rattle.sheet.specs.declared.format.Mark.{Mark}
 use Rattle.sheet.specs.declared.format.Mark.TheVariants.{Frac}
 use Rattle.sheet.specs.declared.refusal.Refusal.{Refusal}
 use Rattle.sheet.specs.declared.refusal.Refusal.TheVariants.{Short, NoMark, Count, Layout}
 use Rattle.sheet.specs.Checks.{Check, judged, after}
-use Rattle.sheet.specs.Format.{mark_of, most_unknowns, most_lines, most_forms, unknowns_field, lines_field, forms_field, lines_start_field, forms_start_field, total_field, lines_start, forms_start, total_length, line_numbers, form_numbers}
+use Rattle.sheet.specs.Format.{mark_of, most_lines, most_forms, unknowns_field, lines_field, forms_field, lines_start_field, forms_start_field, total_field, lines_start, forms_start, total_length, line_numbers, form_numbers}
 use Rattle.sheet.specs.Numbers.{field_at, numbers, block_checks}
 
 pub record Content : Type 0 where

@@ -1,13 +1,13 @@
 -- The bytes of a sheet, and what writing one answers and leaves. Assumes nothing.
---     over at bs memory        memory with bs written over it from the byte `at` on
 --     content m c ls fs        the content of mark m, counts c, line numbers ls and form numbers fs
 --     sheet_bytes s            the bytes of the sheet s
 --     write_checks c ls fs room   what is checked, in order, before those are written into `room` bytes
 --     written s memory         what that answers
 --     memory_after s memory    what the memory holds then
 --     WritesAs s bs            writing s leaves the bytes bs, in any memory with room
-use Rattle.std.specs.Prelude.{◌≡◌, ℕ, ◌+◌, ◌≤◌, List, [], ◌∷◌, ◌++◌, length, take, drop, ℤ, Ok, Result, ◌==◌, nat_le}
+use Rattle.std.specs.Prelude.{◌≡◌, ℕ, ◌≤◌, List, [], ◌∷◌, ◌++◌, length, ℤ, Ok, Result, ◌==◌, nat_le}
 use Rattle.std.specs.List.{flat_map}
+use Rattle.memory.specs.Over.{over}
 use Rattle.sheet.specs.declared.format.Counts.{Counts}
 use Rattle.sheet.specs.declared.format.Mark.{Mark}
 use Rattle.sheet.specs.declared.refusal.Refusal.{Refusal}
@@ -16,10 +16,6 @@ use Rattle.sheet.specs.Checks.{Check, judged, after, if_passed}
 use Rattle.sheet.specs.Format.{letters, header_fields, line_numbers, form_numbers, total_length}
 use Rattle.sheet.specs.Numbers.{field_bytes, number_bytes}
 use Rattle.sheet.specs.Reading.{Content, count_checks, number_checks}
-
--- memory in which bs stands from the byte `at` on, and all else is as it was
-abbrev pub over : ℕ → List ℕ → List ℕ → List ℕ
-over at bs memory = take at memory ++ (bs ++ drop (at + length bs) memory)
 
 abbrev pub content : Mark → Counts → List ℤ → List ℤ → Content
 content m c lines forms = record { mark = m; counts = c; lines = lines; forms = forms }

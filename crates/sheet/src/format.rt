@@ -6,15 +6,9 @@ ghost use Rattle.sheet.specs.Format.{letters, mark_of, most_line_numbers, most_f
 ghost use Rattle.sheet.specs.Reading.{count_checks};
 
 use crate::refusal::Refusal;
+pub use limits::{COEFFICIENT_LIMIT, FRAC, MOST_UNKNOWNS, REST, RIGHT_SIDE_LIMIT};
 
-// The letters of the two marks.
-pub const FRAC: &[u8; 4] = b"FRAC";
-
-pub const REST: &[u8; 4] = b"REST";
-
-// The most that a sheet may have of each.
-pub const MOST_UNKNOWNS: usize = 12;
-
+// The most lines and forms that a sheet may have, and with them the most numbers.
 pub const MOST_LINES: usize = 40;
 
 pub const MOST_FORMS: usize = 40;
@@ -22,11 +16,6 @@ pub const MOST_FORMS: usize = 40;
 pub const MOST_LINE_NUMBERS: usize = MOST_LINES * (MOST_UNKNOWNS + 1);
 
 pub const MOST_FORM_NUMBERS: usize = MOST_FORMS * MOST_UNKNOWNS;
-
-// How far from zero a number may lie.
-pub const COEFFICIENT_LIMIT: u32 = 1_000_000;
-
-pub const RIGHT_SIDE_LIMIT: u32 = 1_000_000_000;
 
 // The bytes at which the fields of the header stand.
 pub const UNKNOWNS_FIELD: usize = 4;

@@ -1,11 +1,12 @@
 // Writes a sheet into lent memory.
 ghost use Rattle.std.specs.Prelude.{◌≡◌, ◌+◌, ◌*◌, ◌≤◌, length, take, IfOk, Ok};
 ghost use Rattle.std.specs.List.{flat_map};
+ghost use Rattle.memory.specs.Over.{over};
 ghost use Rattle.sheet.specs.Checks.{judged};
 ghost use Rattle.sheet.specs.Format.{lines_start, most_length};
 ghost use Rattle.sheet.specs.Numbers.{field_bytes, number_bytes, block_checks};
 ghost use Rattle.sheet.specs.Reading.{count_checks, sheet_of};
-ghost use Rattle.sheet.specs.Writing.{over, content, header_bytes, length_checks, write_checks, written, memory_after};
+ghost use Rattle.sheet.specs.Writing.{content, header_bytes, length_checks, write_checks, written, memory_after};
 
 use crate::format::{Counts, LINES_START, Mark, UNKNOWNS_FIELD};
 use crate::numbers::is_in_range;

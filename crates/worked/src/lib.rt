@@ -1,4 +1,4 @@
-// Cases that were worked by hand, and what the crates below state each for itself and agree on.
+// Cases that were worked by hand, and what the crates below agree on.
 
 #![tactic(auto)]
 
@@ -18,7 +18,7 @@ pub fn worked_cases() -> usize
 }
 
 /// How many unknowns there may be, and how far from zero a coefficient and a right side may lie. Its contract says that the
-/// sheet and the kinds of number, which have these each of their own, agree on them, on the marks, and on what writing leaves.
+/// marks of a sheet are those of the kinds of number, and that the code has the letters and the limits as they are defined.
 pub fn shared_limits() -> (usize, u32, u32)
     ensures agreed { Agreed }
     ensures value { result ≡ (most_unknowns, coefficient_limit, right_side_limit) }

@@ -1,6 +1,6 @@
 use Rattle.std.proofs.Common.{sym, refl, ◌∙◌, arith}
 use Rattle.sheet.specs.Numbers.{field_bytes}
-use Rattle.sheet.proofs.Over.{over_none, pieces_more, pieces_all}
+use Rattle.memory.proofs.Pieces.{over_none, pieces_more, pieces_all}
 use Rattle.sheet.proofs.writer.put_fields.Goals as goal
 
 pub loop-k-init : goal.loop-k-init

@@ -1,7 +1,7 @@
 use Rattle.std.proofs.Common.{get_or, pos, sym, refl, ap, ◌∙◌, arith, w32, SFits, rules}
 use Rattle.std.proofs.lemmas.Int.{to_z-of_z}
 use Rattle.sheet.specs.Numbers.{number_bytes}
-use Rattle.sheet.proofs.Over.{over_none, pieces_more, pieces_all}
+use Rattle.memory.proofs.Pieces.{over_none, pieces_more, pieces_all}
 use Rattle.sheet.proofs.writer.put_numbers.Goals as goal
 
 pub loop-k-init : goal.loop-k-init

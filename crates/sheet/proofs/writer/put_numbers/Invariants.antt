@@ -1,7 +1,7 @@
 use Rattle.std.proofs.Common.{◌≡◌, take}
 use Rattle.std.specs.List.{flat_map}
 use Rattle.sheet.specs.Numbers.{number_bytes}
-use Rattle.sheet.specs.Writing.{over}
+use Rattle.memory.specs.Over.{over}
 use Rattle.sheet.proofs.writer.put_numbers.Given as goal
 
 abbrev pub invariant-loop-k : goal.invariant-loop-k

@@ -1,9 +1,10 @@
--- What is written over memory, piece after piece. Assumes nothing.
-use Rattle.std.proofs.Common.{◌≡◌, ℕ, ◌+◌, ◌*◌, ◌<◌, ◌≤◌, List, [], ◌∷◌, ◌++◌, length, get_or, take, drop, sym, refl, ap, ◌∙◌, append_assoc, append-nil, add_assoc, mul-le-mul_left, mul-suc, arith, length-append, length-drop, length-take-le}
+-- What is written over memory, byte by byte and piece after piece. Assumes nothing.
+use Rattle.std.proofs.Common.{◌≡◌, ℕ, ◌+◌, ◌*◌, ◌<◌, ◌≤◌, List, [], ◌∷◌, ◌++◌, length, get_or, take, drop, set, sym, refl, ap, ◌∙◌, append_assoc, append-nil, add_assoc, mul-le-mul_left, mul-suc, arith, length-append, length-take-le}
 use borrow.Rule.Slice.PartMut.{put_mid}
-use Rattle.std.proofs.lemmas.List.{take_at, drop_at, drop-drop, take-append-drop, take_more, take_all}
+use Rattle.std.proofs.lemmas.List.{take_at, drop_at, drop-drop, take-append-drop, take_more, take_all, take_more_set, take-set-le, drop-set, drop-set-lt, length_push}
+use Rattle.std.proofs.lemmas.Grind.{flat_map-append}
 use Rattle.std.specs.List.{flat_map}
-use Rattle.sheet.specs.Writing.{over}
+use Rattle.memory.specs.Over.{over}
 
 module _ (at : ℕ) (bs m : List ℕ) (p : ℕ) (e : at + length bs ≡ p) (fits : p ≤ length m) where
   front : length (take at m ++ bs) ≡ p
@@ -36,18 +37,27 @@ module _ (at : ℕ) (bs m : List ℕ) (p : ℕ) (e : at + length bs ≡ p) (fits
 pub over_none : (at : ℕ) (m : List ℕ) → over at [] m ≡ m
 over_none at m = ap (λ n. take at m ++ drop n m) (omega arith) ∙ take-append-drop at m
 
-pub length_over : (at : ℕ) (bs m : List ℕ) → at + length bs ≤ length m → length (over at bs m) ≡ length m
-length_over at bs m fits =
-    length-append (take at m) (bs ++ drop (at + length bs) m)
-    ∙ omega (arith, length-take-le at m (omega arith), length-append bs (drop (at + length bs) m), length-drop (at + length bs) m)
+-- a byte before the rest
+pub over_after : (at b : ℕ) (bs m : List ℕ) → at < length m → over (at + 1) bs (set m at b) ≡ over at (b ∷ bs) m
+over_after at b bs m lt =
+    let behind : drop (at + 1 + length bs) (set m at b) ≡ drop (at + length (b ∷ bs)) m = drop-set-lt (at + 1 + length bs) m at b (omega arith) ∙ ap (λ (n : ℕ). drop n m) (omega arith) in
+    ap (λ (l : List ℕ). l ++ (bs ++ drop (at + 1 + length bs) (set m at b))) (take_more_set m at b lt)
+    ∙ ap (λ (l : List ℕ). (take at m ++ (b ∷ [])) ++ (bs ++ l)) behind
+    ∙ append_assoc (take at m) (b ∷ []) (bs ++ drop (at + length (b ∷ bs)) m)
 
+-- a byte behind the rest
+pub over_before : (at b : ℕ) (bs m : List ℕ) (p : ℕ) → at + length bs ≡ p → p < length m → over at bs (set m p b) ≡ over at (bs ++ (b ∷ [])) m
+over_before at b bs m p e lt =
+    let behind : drop (at + length bs) (set m p b) ≡ b ∷ drop (at + length (bs ++ (b ∷ []))) m =
+    ap (λ (n : ℕ). drop n (set m p b)) e ∙ drop-set m p b lt ∙ ap (λ (n : ℕ). b ∷ drop n m) (omega (arith, length_push bs b)) in
+    ap (λ (l : List ℕ). l ++ (bs ++ drop (at + length bs) (set m p b))) (take-set-le at m p b (omega arith))
+    ∙ ap (λ (l : List ℕ). take at m ++ (bs ++ l)) behind
+    ∙ ap (λ (l : List ℕ). take at m ++ l) (sym (append_assoc bs (b ∷ []) (drop (at + length (bs ++ (b ∷ []))) m)))
+
+-- pieces of one width, each made from a value
 module _ {X : Type 0} (f : X → List ℕ) where
-  pub flat_map-append : (xs ys : List X) → flat_map f (xs ++ ys) ≡ flat_map f xs ++ flat_map f ys
-  flat_map-append [] ys = refl
-  flat_map-append (x ∷ xs) ys = ap (λ l. f x ++ l) (flat_map-append xs ys) ∙ sym (append_assoc (f x) (flat_map f xs) (flat_map f ys))
-
   pub flat_map_push : (xs : List X) (k : ℕ) (d : X) → k < length xs → flat_map f (take (k + 1) xs) ≡ flat_map f (take k xs) ++ f (get_or xs k d)
-  flat_map_push xs k d l = ap (flat_map f) (take_more xs k d l) ∙ flat_map-append (take k xs) (get_or xs k d ∷ []) ∙ ap (λ r. flat_map f (take k xs) ++ r) (append-nil (f (get_or xs k d)))
+  flat_map_push xs k d l = ap (flat_map f) (take_more xs k d l) ∙ flat_map-append f (take k xs) (get_or xs k d ∷ []) ∙ ap (λ r. flat_map f (take k xs) ++ r) (append-nil (f (get_or xs k d)))
 
   pub length-flat_map : (w : ℕ) → ((x : X) → length (f x) ≡ w) → (xs : List X) → length (flat_map f xs) ≡ w * length xs
   length-flat_map w h [] = omega arith
