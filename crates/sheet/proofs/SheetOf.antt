@@ -1,5 +1,5 @@
 -- What the steps of reading a sheet show of `sheet_of`. Assumes nothing.
-use Rattle.std.proofs.Common.{◌≡◌, ℕ, ◌+◌, ◌≤◌, true, List, take, ℤ, is_ok, Ok, Err, unwrap_or, sym, ap, ◌∙◌, arith}
+use Rattle.std.proofs.Common.{◌≡◌, ℕ, ◌+◌, ◌*◌, ◌≤◌, true, List, take, ℤ, is_ok, Ok, Err, unwrap_or, sym, ap, subst, ◌∙◌, arith}
 use Rattle.std.proofs.lemmas.Nat.{mul-le}
 use Rattle.std.proofs.lemmas.Bool.{leb-true, and_parts}
 use Rattle.limits.specs.Limits.{most_unknowns}
@@ -7,8 +7,11 @@ use Rattle.sheet.specs.declared.format.Counts.{Counts}
 use Rattle.sheet.specs.declared.format.Mark.{Mark}
 use Rattle.sheet.specs.declared.format.Mark.TheVariants.{Frac}
 use Rattle.sheet.specs.declared.refusal.Refusal.{Refusal}
-use Rattle.sheet.specs.Checks.{judged, after}
+use Rattle.sheet.specs.Checks.{Check, judged, after}
 use Rattle.sheet.specs.Format.{most_lines, most_forms, most_line_numbers, most_form_numbers, line_numbers, form_numbers}
+use Rattle.sheet.specs.Numbers.{numbers, block_checks}
+use Rattle.sheet.specs.declared.numbers.Block.{Block}
+use Rattle.sheet.specs.Blocks.{count, numbers_of, checks_of, IsLines, IsForms}
 use Rattle.sheet.specs.Reading.{counts_of, count_checks, line_checks, form_checks, number_checks, lines_in, forms_in, content_of, sheet_of}
 use Rattle.sheet.specs.Steps.{HeaderOf, BlockRead}
 use Rattle.sheet.proofs.Judged.{judged-append, holds_from_judged}
@@ -31,6 +34,14 @@ line_numbers_le c h = let s = small c h in mul-le c.lines (c.unknowns + 1) most_
 
 pub form_numbers_le : (c : Counts) → judged (count_checks c) ≡ Ok tt → form_numbers c ≤ most_form_numbers
 form_numbers_le c h = let s = small c h in mul-le c.forms c.unknowns most_forms most_unknowns s.forms s.unknowns
+
+-- what reading the blocks of lines and forms tells of the lines and forms
+module _ (c : Counts) (b : Block) (bytes : List ℕ) where
+  lines_are : IsLines c b → (T : List Check → ℕ → List ℤ → Type 0) → T (checks_of b (numbers_of bytes b)) (count b) (numbers_of bytes b) → T (line_checks c (lines_in bytes c)) (line_numbers c) (lines_in bytes c)
+  lines_are l T = subst (λ (q : ℕ × ℕ × ℕ × ℕ). T (block_checks q.3 q.2 q.0 (numbers bytes q.0 (q.1 * q.2))) (q.1 * q.2) (numbers bytes q.0 (q.1 * q.2))) (λ i. (l.start i, l.rows i, l.width i, l.unknowns i))
+
+  forms_are : IsForms c b → (T : List Check → ℕ → List ℤ → Type 0) → T (checks_of b (numbers_of bytes b)) (count b) (numbers_of bytes b) → T (form_checks c (forms_in bytes c)) (form_numbers c) (forms_in bytes c)
+  forms_are l T = subst (λ (q : ℕ × ℕ × ℕ × ℕ). T (block_checks q.3 q.2 q.0 (numbers bytes q.0 (q.1 * q.2))) (q.1 * q.2) (numbers bytes q.0 (q.1 * q.2))) (λ i. (l.start i, l.rows i, l.width i, l.unknowns i))
 
 -- the lines pass, so the forms decide
 pub lines_pass : (c : Counts) (ls fs : List ℤ) → judged (line_checks c ls) ≡ Ok tt → judged (number_checks c ls fs) ≡ judged (form_checks c fs)
@@ -55,19 +66,29 @@ module _ {bytes : List ℕ} {m : Mark} {c : Counts} (header : HeaderOf bytes m c
       ∙ ap (λ o. Ok (record { mark = unwrap_or o Frac; counts = counts_of bytes; lines = lines_in bytes (counts_of bytes); forms = forms_in bytes (counts_of bytes) })) header.marked
       ∙ ap (λ (d : Counts). Ok (record { mark = m; counts = d; lines = lines_in bytes d; forms = forms_in bytes d })) header.counted
 
-  pub stops_in_lines : (e : Refusal) → judged (line_checks c (lines_in bytes c)) ≡ Err e → sheet_of bytes ≡ Err e
-  stops_in_lines e h = sheet_stops e (lines_stop c (lines_in bytes c) (forms_in bytes c) e h)
-
-  pub stops_in_forms : (e : Refusal) → judged (line_checks c (lines_in bytes c)) ≡ Ok tt → judged (form_checks c (forms_in bytes c)) ≡ Err e → sheet_of bytes ≡ Err e
-  stops_in_forms e l h = sheet_stops e (lines_pass c (lines_in bytes c) (forms_in bytes c) l ∙ h)
-
   -- what was read of the lines and of the forms
-  module _ (ls fs : List ℤ) (l : BlockRead (Ok ls) (line_checks c (lines_in bytes c)) (line_numbers c) (lines_in bytes c)) (f : BlockRead (Ok fs) (form_checks c (forms_in bytes c)) (form_numbers c) (forms_in bytes c)) where
-    all_pass : judged (number_checks c (lines_in bytes c) (forms_in bytes c)) ≡ Ok tt
-    all_pass = lines_pass c (lines_in bytes c) (forms_in bytes c) l.0 ∙ f.0
+  module _ {b : Block} (is_lines : IsLines c b) where
+    pub stops_in_lines : (e : Refusal) → judged (checks_of b (numbers_of bytes b)) ≡ Err e → sheet_of bytes ≡ Err e
+    stops_in_lines e h = sheet_stops e (lines_stop c (lines_in bytes c) (forms_in bytes c) e (lines_are c b bytes is_lines (λ checks n zs. judged checks ≡ Err e) h))
 
-    pub ranged : is_ok (judged (number_checks c (take (line_numbers c) ls) (take (form_numbers c) fs))) ≡ true
-    ranged = rw (l.1, f.1) (ap is_ok all_pass)
+    module _ (ls : List ℤ) (l : BlockRead (Ok ls) (checks_of b (numbers_of bytes b)) (count b) (numbers_of bytes b)) where
+      pub lines_read : BlockRead (Ok ls) (line_checks c (lines_in bytes c)) (line_numbers c) (lines_in bytes c)
+      lines_read = lines_are c b bytes is_lines (BlockRead (Ok ls)) l
 
-    pub reads : Ok (record { mark = m; counts = c; lines = take (line_numbers c) ls; forms = take (form_numbers c) fs }) ≡ sheet_of bytes
-    reads = rw (l.1, f.1) (sym (sheet_passes all_pass))
+      module _ {d : Block} (is_forms : IsForms c d) where
+        pub stops_in_forms : (e : Refusal) → judged (checks_of d (numbers_of bytes d)) ≡ Err e → sheet_of bytes ≡ Err e
+        stops_in_forms e h =
+            sheet_stops e (lines_pass c (lines_in bytes c) (forms_in bytes c) lines_read.0 ∙ forms_are c d bytes is_forms (λ checks n zs. judged checks ≡ Err e) h)
+
+        module _ (fs : List ℤ) (f : BlockRead (Ok fs) (checks_of d (numbers_of bytes d)) (count d) (numbers_of bytes d)) where
+          pub forms_read : BlockRead (Ok fs) (form_checks c (forms_in bytes c)) (form_numbers c) (forms_in bytes c)
+          forms_read = forms_are c d bytes is_forms (BlockRead (Ok fs)) f
+
+          all_pass : judged (number_checks c (lines_in bytes c) (forms_in bytes c)) ≡ Ok tt
+          all_pass = lines_pass c (lines_in bytes c) (forms_in bytes c) lines_read.0 ∙ forms_read.0
+
+          pub ranged : is_ok (judged (number_checks c (take (line_numbers c) ls) (take (form_numbers c) fs))) ≡ true
+          ranged = rw (lines_read.1, forms_read.1) (ap is_ok all_pass)
+
+          pub reads : Ok (record { mark = m; counts = c; lines = take (line_numbers c) ls; forms = take (form_numbers c) fs }) ≡ sheet_of bytes
+          reads = rw (lines_read.1, forms_read.1) (sym (sheet_passes all_pass))

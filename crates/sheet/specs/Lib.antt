@@ -2,6 +2,7 @@ pub mod Refusals
 pub mod Format
 pub mod Checks
 pub mod Numbers
+pub mod Blocks
 pub mod Reading
 pub mod Steps
 pub mod Writing

@@ -8,7 +8,7 @@ use Rattle.sheet.specs.Format.{line_numbers, form_numbers}
 use Rattle.sheet.specs.Reading.{Content}
 
 abbrev pub says : Sheet → Content
-says s = record { mark = s.mark; counts = s.counts; lines = take (line_numbers s.counts) s.lines; forms = take (form_numbers s.counts) s.forms }
+says s = record { mark = s.mark; counts = s.shape.counts; lines = take (line_numbers s.shape.counts) s.lines; forms = take (form_numbers s.shape.counts) s.forms }
 
 abbrev pub content_read : Result Sheet Refusal → Result Content Refusal
 content_read (Ok s) = Ok (says s)

@@ -1,8 +1,8 @@
 // The layout of a sheet: its marks, its counts, where each field stands, and how large a number may be.
-ghost use Rattle.std.specs.Prelude.{◌≡◌, ◌+◌, ◌*◌, ◌≤◌, true, is_ok};
+ghost use Rattle.std.specs.Prelude.{◌≡◌};
 ghost use Rattle.std.specs.Str.{bytes_eq};
 ghost use Rattle.sheet.specs.Checks.{judged};
-ghost use Rattle.sheet.specs.Format.{letters, mark_of, most_line_numbers, most_form_numbers, most_forms_start, most_length, line_numbers, form_numbers, forms_start, total_length};
+ghost use Rattle.sheet.specs.Format.{letters, mark_of};
 ghost use Rattle.sheet.specs.Reading.{count_checks};
 
 use crate::refusal::Refusal;
@@ -97,41 +97,5 @@ impl Counts {
             return Err(Refusal::Count { byte: FORMS_FIELD });
         }
         Ok(())
-    }
-
-    /// How many numbers the lines have.
-    pub(crate) fn line_numbers(self) -> usize
-        requires { is_ok (judged (count_checks self)) ≡ true }
-        ensures value { result ≡ line_numbers self }
-        ensures bound { result ≤ most_line_numbers }
-    {
-        self.lines * (self.unknowns + 1)
-    }
-
-    /// How many numbers the forms have.
-    pub(crate) fn form_numbers(self) -> usize
-        requires { is_ok (judged (count_checks self)) ≡ true }
-        ensures value { result ≡ form_numbers self }
-        ensures bound { result ≤ most_form_numbers }
-    {
-        self.forms * self.unknowns
-    }
-
-    /// The byte at which the first form begins.
-    pub(crate) fn forms_start(self) -> usize
-        requires { is_ok (judged (count_checks self)) ≡ true }
-        ensures value { result ≡ forms_start self }
-        ensures bound { result ≤ most_forms_start }
-    {
-        LINES_START + 4 * self.line_numbers()
-    }
-
-    /// How many bytes the whole sheet has.
-    pub(crate) fn total_length(self) -> usize
-        requires { is_ok (judged (count_checks self)) ≡ true }
-        ensures value { result ≡ total_length self }
-        ensures bound { result ≤ most_length }
-    {
-        self.forms_start() + 4 * self.form_numbers()
     }
 }

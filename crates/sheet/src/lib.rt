@@ -7,5 +7,7 @@ mod numbers;
 pub mod reader;
 pub mod refusal;
 mod rows;
+mod shape;
 pub mod typed;
+mod word;
 pub mod writer;

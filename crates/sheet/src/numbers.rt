@@ -1,7 +1,9 @@
 // The numbers of a sheet: how they stand in its bytes, and which range each has to lie in.
 ghost use Rattle.std.specs.Prelude.{◌≡◌, ◌+◌, ◌*◌, ◌≤◌, length, OnOk};
 ghost use Rattle.sheet.specs.Checks.{judged};
-ghost use Rattle.sheet.specs.Numbers.{field_at, number_at, numbers as numbers_from, in_range, block_checks};
+ghost use Rattle.sheet.specs.Format.{most_length};
+ghost use Rattle.sheet.specs.Numbers.{field_at, number_at, in_range};
+ghost use Rattle.sheet.specs.Steps.{BlockRead};
 
 use crate::format::{COEFFICIENT_LIMIT, RIGHT_SIDE_LIMIT};
 use crate::refusal::Refusal;
@@ -22,19 +24,7 @@ pub(crate) fn number(bytes: &[u8], at: usize) -> i32
     i32::from_le_bytes([bytes[at], bytes[at + 1], bytes[at + 2], bytes[at + 3]])
 }
 
-/// Whether `x` may stand at the place `column` of a row, where the first `unknowns` places are coefficients.
-pub(crate) fn is_in_range(x: i32, column: usize, unknowns: usize) -> bool
-    ensures { result ≡ in_range unknowns column x }
-{
-    let limit = if column < unknowns {
-        COEFFICIENT_LIMIT
-    } else {
-        RIGHT_SIDE_LIMIT
-    };
-    x.unsigned_abs() <= limit
-}
-
-/// Rows of numbers, one after another: the lines of a sheet, or its forms.
+/// Rows of numbers, one after another: the lines of a sheet, or its forms. It ends within the largest sheet.
 #[derive(Clone, Copy)]
 pub(crate) struct Block {
     /// The byte at which the first row begins.
@@ -44,30 +34,91 @@ pub(crate) struct Block {
     pub(crate) width: usize,
     /// How many of them are coefficients.
     pub(crate) unknowns: usize,
+    ghost wide: { 1 ≤ width },
+    ghost short: { start + 4 * (rows * width) ≤ most_length },
 }
 
-/// Reads the numbers of a block into `into`, up to the first that is out of range.
-pub(crate) fn read_block(bytes: &[u8], block: Block, into: &mut [i32]) -> Result<(), Refusal>
-    requires inside { block.start + 4 * (block.rows * block.width) ≤ length bytes.now }
-    requires room { length into.old ≡ block.rows * block.width }
-    ensures verdict { result ≡ judged (block_checks block.unknowns block.width block.start (numbers_from bytes.now block.start (block.rows * block.width))) }
-    ensures read { OnOk result (into.new ≡ numbers_from bytes.now block.start (block.rows * block.width)) }
-{
-    let mut verdict = Ok(());
-    'rows: for row in 0..block.rows {
-        for column in 0..block.width {
-            let place = row * block.width + column;
-            let byte = block.start + 4 * place;
-            let x = number(bytes, byte);
-            if !is_in_range(x, column, block.unknowns) {
-                verdict = Err(Refusal::Number {
-                    position: column + 1,
-                    byte,
-                });
-                break 'rows;
-            }
-            into[place] = x;
-        }
+impl Block {
+    ghost use Rattle.sheet.specs.Blocks.{count, end_of, numbers_of, checks_of};
+
+    /// How many numbers it has.
+    pub(crate) fn count(self) -> usize
+        ensures { result ≡ count self }
+    {
+        self.rows * self.width
     }
-    verdict
+
+    /// The byte just past its last number.
+    pub(crate) fn end(self) -> usize
+        ensures { result ≡ end_of self }
+    {
+        self.start + 4 * self.count()
+    }
+
+    /// Whether `x` may stand in the column `column` of a row: first come the coefficients, then perhaps a right side.
+    fn takes(self, x: i32, column: usize) -> bool
+        ensures { result ≡ in_range self.unknowns column x }
+    {
+        let limit = if column < self.unknowns {
+            COEFFICIENT_LIMIT
+        } else {
+            RIGHT_SIDE_LIMIT
+        };
+        x.unsigned_abs() <= limit
+    }
+
+    /// Whether each of its numbers is in range, or the place of the first that is not.
+    pub(crate) fn check(self, numbers: &[i32]) -> Result<(), Refusal>
+        requires { length numbers.now ≡ count self }
+        ensures { result ≡ judged (checks_of self numbers.now) }
+    {
+        for (k, x) in numbers.iter().enumerate() {
+            let column = k % self.width;
+            if !self.takes(*x, column) {
+                return Err(Refusal::Number {
+                    position: column + 1,
+                    byte: self.start + 4 * k,
+                });
+            }
+        }
+        Ok(())
+    }
+
+    /// Reads its numbers into `into`, up to the first that is out of range.
+    fn read_into(self, bytes: &[u8], into: &mut [i32]) -> Result<(), Refusal>
+        requires inside { end_of self ≤ length bytes.now }
+        requires room { length into.old ≡ count self }
+        ensures verdict { result ≡ judged (checks_of self (numbers_of bytes.now self)) }
+        ensures read { OnOk result (into.new ≡ numbers_of bytes.now self) }
+    {
+        let mut verdict = Ok(());
+        'rows: for row in 0..self.rows {
+            for column in 0..self.width {
+                let place = row * self.width + column;
+                let byte = self.start + 4 * place;
+                let x = number(bytes, byte);
+                if !self.takes(x, column) {
+                    verdict = Err(Refusal::Number {
+                        position: column + 1,
+                        byte,
+                    });
+                    break 'rows;
+                }
+                into[place] = x;
+            }
+        }
+        verdict
+    }
+
+    /// Its numbers, at the front of an array that has room for them.
+    pub(crate) fn read<const N: usize>(self, bytes: &[u8]) -> Result<[i32; N], Refusal>
+        requires inside { end_of self ≤ length bytes.now }
+        requires room { count self ≤ N }
+        ensures { BlockRead result (checks_of self (numbers_of bytes.now self)) (count self) (numbers_of bytes.now self) }
+    {
+        let mut numbers = [0; N];
+        let front = &mut numbers[..];
+        self.read_into(bytes, &mut front[0..self.count()])?;
+        Ok(numbers)
+    }
 }

@@ -1,88 +1,41 @@
 // Writes a sheet into lent memory.
-ghost use Rattle.std.specs.Prelude.{◌≡◌, ◌+◌, ◌*◌, ◌≤◌, length, take, IfOk, Ok};
-ghost use Rattle.std.specs.List.{flat_map};
+ghost use Rattle.std.specs.Prelude.{◌≡◌, ◌≤◌, length, take, IfOk, Ok};
 ghost use Rattle.memory.specs.Over.{over};
 ghost use Rattle.sheet.specs.Checks.{judged};
-ghost use Rattle.sheet.specs.Format.{lines_start, most_length};
-ghost use Rattle.sheet.specs.Numbers.{field_bytes, number_bytes, block_checks};
-ghost use Rattle.sheet.specs.Reading.{count_checks, sheet_of};
+ghost use Rattle.sheet.specs.Format.{lines_start};
+ghost use Rattle.sheet.specs.Reading.{sheet_of};
 ghost use Rattle.sheet.specs.Writing.{content, header_bytes, length_checks, write_checks, written, memory_after};
 
 use crate::format::{Counts, LINES_START, Mark, UNKNOWNS_FIELD};
-use crate::numbers::is_in_range;
 use crate::refusal::Refusal;
-
-/// Writes fields of two bytes over `memory`, from the byte `at` on.
-fn put_fields(memory: &mut [u8], at: usize, fields: &[u16])
-    requires { at + 2 * length fields.now ≤ length memory.old }
-    ensures { memory.new ≡ over at (flat_map field_bytes fields.now) memory.old }
-{
-    for k in 0..fields.len() {
-        let byte = at + 2 * k;
-        memory[byte..byte + 2].copy_from_slice(&fields[k].to_le_bytes());
-    }
-}
-
-/// Writes numbers of four bytes over `memory`, from the byte `at` on.
-fn put_numbers(memory: &mut [u8], at: usize, numbers: &[i32])
-    requires { at + 4 * length numbers.now ≤ length memory.old }
-    ensures { memory.new ≡ over at (flat_map number_bytes numbers.now) memory.old }
-{
-    for k in 0..numbers.len() {
-        let byte = at + 4 * k;
-        memory[byte..byte + 4].copy_from_slice(&numbers[k].to_le_bytes());
-    }
-}
+use crate::shape::Shape;
+use crate::word::put_words;
 
 /// Writes the header at the front of `memory`.
-fn put_header(memory: &mut [u8], mark: Mark, counts: Counts)
-    requires counted { judged (count_checks counts) ≡ Ok tt }
-    requires room { lines_start ≤ length memory.old }
-    ensures { memory.new ≡ over 0 (header_bytes mark counts) memory.old }
+fn put_header(memory: &mut [u8], mark: Mark, shape: Shape)
+    requires { lines_start ≤ length memory.old }
+    ensures { memory.new ≡ over 0 (header_bytes mark shape.counts) memory.old }
 {
     memory[0..UNKNOWNS_FIELD].copy_from_slice(mark.letters());
+    let counts = shape.counts;
     let fields = [
         counts.unknowns as u16,
         counts.lines as u16,
         counts.forms as u16,
         LINES_START as u16,
-        counts.forms_start() as u16,
-        counts.total_length() as u16,
+        shape.forms().start as u16,
+        shape.total_length() as u16,
     ];
-    put_fields(memory, UNKNOWNS_FIELD, &fields);
-}
-
-/// Whether each number of a block of rows is in its range, or the place of the first that is not.
-fn check_numbers(
-    numbers: &[i32],
-    start: usize,
-    width: usize,
-    unknowns: usize,
-) -> Result<(), Refusal>
-    requires some { 1 ≤ width }
-    requires few { start + 4 * length numbers.now ≤ most_length }
-    ensures { result ≡ judged (block_checks unknowns width start numbers.now) }
-{
-    for k in 0..numbers.len() {
-        let column = k % width;
-        if !is_in_range(numbers[k], column, unknowns) {
-            return Err(Refusal::Number {
-                position: column + 1,
-                byte: start + 4 * k,
-            });
-        }
-    }
-    Ok(())
+    put_words(memory, UNKNOWNS_FIELD, &fields);
 }
 
 /// Whether the lists and the memory have the lengths that the counts ask for.
-fn check_lengths(counts: Counts, lines: usize, forms: usize, room: usize) -> Result<(), Refusal>
-    requires { judged (count_checks counts) ≡ Ok tt }
-    ensures { result ≡ judged (length_checks counts lines forms room) }
+fn check_lengths(shape: Shape, lines: usize, forms: usize, room: usize) -> Result<(), Refusal>
+    ensures { result ≡ judged (length_checks shape.counts lines forms room) }
 {
-    if lines == counts.line_numbers()
-        && forms == counts.form_numbers()
-        && counts.total_length() <= room
+    if lines == shape.lines().count()
+        && forms == shape.forms().count()
+        && shape.total_length() <= room
     {
         Ok(())
     } else {
@@ -90,19 +43,13 @@ fn check_lengths(counts: Counts, lines: usize, forms: usize, room: usize) -> Res
     }
 }
 
-/// Whether a sheet can be written into `room` bytes, or the first thing that is wrong with it.
-fn check(counts: Counts, lines: &[i32], forms: &[i32], room: usize) -> Result<(), Refusal>
-    ensures { result ≡ judged (write_checks counts lines.now forms.now room) }
+/// Whether a sheet of this shape can be written into `room` bytes, or the first thing that is wrong with it.
+fn check(shape: Shape, lines: &[i32], forms: &[i32], room: usize) -> Result<(), Refusal>
+    ensures { result ≡ judged (write_checks shape.counts lines.now forms.now room) }
 {
-    counts.check()?;
-    check_lengths(counts, lines.len(), forms.len(), room)?;
-    check_numbers(lines, LINES_START, counts.unknowns + 1, counts.unknowns)?;
-    check_numbers(
-        forms,
-        counts.forms_start(),
-        counts.unknowns,
-        counts.unknowns,
-    )
+    check_lengths(shape, lines.len(), forms.len(), room)?;
+    shape.lines().check(lines)?;
+    shape.forms().check(forms)
 }
 
 /// Writes a sheet at the front of `memory`, and says how long it is.
@@ -118,9 +65,10 @@ pub fn write(
     ensures after { memory.new ≡ memory_after (content mark counts lines.now forms.now) memory.old }
     ensures back { IfOk result (λ n. sheet_of (take n memory.new) ≡ Ok (content mark counts lines.now forms.now)) }
 {
-    check(counts, lines, forms, memory.len())?;
-    put_header(memory, mark, counts);
-    put_numbers(memory, LINES_START, lines);
-    put_numbers(memory, counts.forms_start(), forms);
-    Ok(counts.total_length())
+    let shape = Shape::try_from(counts)?;
+    check(shape, lines, forms, memory.len())?;
+    put_header(memory, mark, shape);
+    put_words(memory, LINES_START, lines);
+    put_words(memory, shape.forms().start, forms);
+    Ok(shape.total_length())
 }

@@ -4,7 +4,7 @@ use Rattle.std.proofs.lemmas.Int.{to_z-of_z}
 use Rattle.sheet.specs.declared.refusal.Refusal.TheVariants.{Number}
 use Rattle.sheet.proofs.Judged.{made_at}
 use Rattle.sheet.proofs.Blocks.{fine_all, fine_stops, in_column, copied_more, copied_all}
-use Rattle.sheet.proofs.numbers.read_block.Goals as goal
+use Rattle.sheet.proofs.numbers.Block.read_into.Goals as goal
 
 -- row a and column b of a block lie in it
 inside : {a w b h : ℕ} → a < h → b < w → a * w + b < w * h
@@ -29,7 +29,7 @@ pub loop-column-preserved : goal.loop-column-preserved
 loop-column-preserved c =
     let h = inside c.rows-test.true c.loop-column-test.true in
     let f : SFits w32 c.number-x.result = search rules in
-    let here = in_column c.args.block.unknowns c.args.block.width c.rows.row c.loop-column.column _ _ _ c.loop-column-test.true f c.number-x.ensures c.is_in_range.ensures ∙ c.if-not-is_in_range.false in (
+    let here = in_column c.args.self.unknowns c.args.self.width c.rows.row c.loop-column.column _ _ _ c.loop-column-test.true f c.number-x.ensures c.takes.ensures ∙ c.if-not-takes.false in (
       c.loop-column.invariant.0,
       (λ t l. below_more _ _ c.loop-column.invariant.1 here t (omega arith)),
       λ t l. copied_more _ _ _ _ _ (omega arith) (to_z-of_z w32 c.number-x.result f ∙ c.number-x.ensures) c.loop-column.invariant.2 t (omega arith),
@@ -37,19 +37,19 @@ loop-column-preserved c =
 
 pub returns-after-rows : goal.returns-after-rows
 returns-after-rows c =
-    let e : c.rows.row ≡ c.args.block.rows = omega arith in
-    let count = c.args.block.rows * c.args.block.width in
+    let e : c.rows.row ≡ c.args.self.rows = omega arith in
+    let count = c.args.self.rows * c.args.self.width in
     let fine = fine_all _ _ _ _ count (rw e at c.rows.invariant.1) in
     record { verdict = c.rows.invariant.0 ∙ sym fine; read = made_at _ c.rows.invariant.0 (copied_all _ _ _ count (c.rows.auto.into ∙ c.requires.room) (rw e at c.rows.invariant.2)) }
 
-pub returns-then-not-is_in_range : goal.returns-then-not-is_in_range
-returns-then-not-is_in_range c =
+pub returns-then-not-takes : goal.returns-then-not-takes
+returns-then-not-takes c =
     let f : SFits w32 c.number-x.result = search rules in
     let h = inside c.rows-test.true c.loop-column-test.true in
-    let here = in_column c.args.block.unknowns c.args.block.width c.rows.row c.loop-column.column _ _ _ c.loop-column-test.true f c.number-x.ensures c.is_in_range.ensures ∙ c.if-not-is_in_range.true in
-    let at = c.rows.row * c.args.block.width + c.loop-column.column in
+    let here = in_column c.args.self.unknowns c.args.self.width c.rows.row c.loop-column.column _ _ _ c.loop-column-test.true f c.number-x.ensures c.takes.ensures ∙ c.if-not-takes.true in
+    let at = c.rows.row * c.args.self.width + c.loop-column.column in
     record {
-      verdict = sym (fine_stops c.args.block.unknowns c.args.block.width c.args.block.start c.args.bytes.now (c.args.block.rows * c.args.block.width) at (omega arith) c.loop-column.invariant.1 here
-          ∙ ap (λ j. Err (Number (j + 1) (c.args.block.start + 4 * at))) (mod-mul-add c.rows.row c.args.block.width c.loop-column.column c.loop-column-test.true));
+      verdict = sym (fine_stops c.args.self.unknowns c.args.self.width c.args.self.start c.args.bytes.now (c.args.self.rows * c.args.self.width) at (omega arith) c.loop-column.invariant.1 here
+          ∙ ap (λ j. Err (Number (j + 1) (c.args.self.start + 4 * at))) (mod-mul-add c.rows.row c.args.self.width c.loop-column.column c.loop-column-test.true));
       read = tt;
     }

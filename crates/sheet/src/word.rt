@@ -1,0 +1,60 @@
+// Numbers as bytes in lent memory, low byte first: the fields of a header, and the numbers of lines and forms.
+ghost use Rattle.std.specs.Prelude.{◌≡◌, ℕ, ◌+◌, ◌*◌, ◌≤◌, List, length, refl};
+ghost use Rattle.std.specs.List.{flat_map};
+ghost use Rattle.memory.specs.Over.{over};
+ghost use Rattle.sheet.specs.Numbers.{field_bytes, number_bytes};
+
+/// A number that is written as a few bytes, always as many.
+pub(crate) trait Word: Copy {
+    /// How many.
+    const BYTES: usize;
+
+    ghost BYTES: { ℕ };
+
+    ghost bytes_of: { Self → List ℕ };
+
+    fn put(self, into: &mut [u8])
+        requires { length into.old ≡ BYTES }
+        ensures { into.new ≡ bytes_of self };
+
+    ghost sized: { (x : Self) → length (bytes_of x) ≡ BYTES };
+}
+
+impl Word for u16 {
+    const BYTES: usize = 2;
+
+    ghost BYTES = { 2 };
+
+    ghost bytes_of = { field_bytes };
+
+    ghost sized = { λ _. refl };
+
+    fn put(self, into: &mut [u8]) {
+        into.copy_from_slice(&self.to_le_bytes());
+    }
+}
+
+impl Word for i32 {
+    const BYTES: usize = 4;
+
+    ghost BYTES = { 4 };
+
+    ghost bytes_of = { number_bytes };
+
+    ghost sized = { λ _. refl };
+
+    fn put(self, into: &mut [u8]) {
+        into.copy_from_slice(&self.to_le_bytes());
+    }
+}
+
+/// Writes words over `memory`, one after another, from the byte `at` on.
+pub(crate) fn put_words<W: Word>(memory: &mut [u8], at: usize, words: &[W])
+    requires { at + W.BYTES * length words.now ≤ length memory.old }
+    ensures { memory.new ≡ over at (flat_map W.bytes_of words.now) memory.old }
+{
+    for (k, word) in words.iter().enumerate() {
+        let byte = at + W::BYTES * k;
+        word.put(&mut memory[byte..byte + W::BYTES]);
+    }
+}
