@@ -59,6 +59,11 @@ mod tests {
         assert!(rt; sheet.line(4).is_none());
         assert!(rt; sheet.form(1).ok_or("form")? == [1, -2].as_slice());
         assert!(rt; sheet.form(2).is_none());
+        assert!(rt; sheet.lines().count() == 4);
+        assert!(rt; sheet.forms().nth(1).ok_or("form")? == [1, -2].as_slice());
+        for line in sheet.lines() {
+            assert!(rt; line.len() == 3);
+        }
         Ok(())
     }
 
