@@ -77,7 +77,7 @@ module _ (m : Mark) (c : Counts) (rest : List ℕ) (counted : judged (count_chec
   counts_back : counts_of (header_bytes m c ++ rest) ≡ c
   counts_back = λ i. record { unknowns = fields.0 i; lines = fields.1 i; forms = fields.2 i }
 
-  layout_back : All Holds (layout_checks (header_bytes m c ++ rest) c)
+  layout_back : All Holds (layout_checks (header_bytes m c ++ rest) c (length (header_bytes m c ++ rest)))
   layout_back =
       (eq-eqb _ _ fields.3, (eq-eqb _ _ fields.4, (and_from _ _ (eq-eqb _ _ fields.5) (eq-eqb _ _ (fields.5 ∙ sym long)), tt)))
 
@@ -85,10 +85,10 @@ module _ (m : Mark) (c : Counts) (rest : List ℕ) (counted : judged (count_chec
   header_back =
       let bs = header_bytes m c ++ rest in
       let counts = subst (λ d. All Holds (count_checks d)) (sym counts_back) (holds_from_judged (count_checks c) counted) in
-      let layout = subst (λ d. All Holds (layout_checks bs d)) (sym counts_back) layout_back in
+      let layout = subst (λ d. All Holds (layout_checks bs d (length bs))) (sym counts_back) layout_back in
       let marked = mark_back m (flat_map field_bytes (header_fields c)) rest in
       record {
-        passes = judged_from_holds (header_checks bs) (le-leb 16 (length bs) (omega (arith, long)), (ap is_some marked, All-append Holds (count_checks (counts_of bs)) (layout_checks bs (counts_of bs)) counts layout));
+        passes = judged_from_holds (header_checks bs) (le-leb 16 (length bs) (omega (arith, long)), (ap is_some marked, All-append Holds (count_checks (counts_of bs)) (layout_checks bs (counts_of bs) (length bs)) counts layout));
         marked = marked;
         counted = counts_back;
         small = counted;

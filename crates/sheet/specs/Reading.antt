@@ -40,19 +40,19 @@ count_checks c =
     ∷ (nat_le c.forms most_forms, Count forms_field)
     ∷ []
 
--- the offsets and the total are what the counts make them, and the total is the number of bytes
-abbrev pub layout_checks : List ℕ → Counts → List Check
-layout_checks bytes c =
-    ((field_at bytes lines_start_field == lines_start), Layout lines_start_field)
-    ∷ ((field_at bytes forms_start_field == forms_start c), Layout forms_start_field)
-    ∷ (field_at bytes total_field == total_length c && (field_at bytes total_field == length bytes), Layout total_field)
+-- the offsets and the total of a header are what the counts make them, and the total is `size`, the number of bytes
+abbrev pub layout_checks : List ℕ → Counts → ℕ → List Check
+layout_checks header c size =
+    ((field_at header lines_start_field == lines_start), Layout lines_start_field)
+    ∷ ((field_at header forms_start_field == forms_start c), Layout forms_start_field)
+    ∷ (field_at header total_field == total_length c && (field_at header total_field == size), Layout total_field)
     ∷ []
 
 abbrev pub header_checks : List ℕ → List Check
 header_checks bytes =
     (nat_le lines_start (length bytes), Short (length bytes))
     ∷ (is_some (mark_of (take 4 bytes)), NoMark)
-    ∷ (count_checks (counts_of bytes) ++ layout_checks bytes (counts_of bytes))
+    ∷ (count_checks (counts_of bytes) ++ layout_checks bytes (counts_of bytes) (length bytes))
 
 -- every number of the lines, and then of the forms, in its range
 abbrev pub line_checks : Counts → List ℤ → List Check

@@ -51,23 +51,14 @@ impl Mark {
         }
     }
 
-    /// Whether some bytes are its letters.
-    fn is(self, bytes: &[u8]) -> bool
-        ensures { result ≡ bytes_eq bytes.now (letters self) }
-    {
-        bytes == self.letters().as_slice()
-    }
-
     /// The mark whose letters some bytes are, if any.
     pub fn of(bytes: &[u8]) -> Option<Mark>
         ensures { result ≡ mark_of bytes.now }
     {
-        if Mark::Frac.is(bytes) {
-            Some(Mark::Frac)
-        } else if Mark::Rest.is(bytes) {
-            Some(Mark::Rest)
-        } else {
-            None
+        match bytes.as_array() {
+            Some(FRAC) => Some(Mark::Frac),
+            Some(REST) => Some(Mark::Rest),
+            _ => None,
         }
     }
 }

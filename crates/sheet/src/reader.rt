@@ -1,7 +1,6 @@
 // Reads a sheet from any bytes at all.
-ghost use Rattle.std.specs.Prelude.{◌≡◌, ◌≤◌, length, IfOk, Err, MatchResult};
+ghost use Rattle.std.specs.Prelude.{◌≡◌, IfOk, Err, MatchResult};
 ghost use Rattle.sheet.specs.Checks.{judged};
-ghost use Rattle.sheet.specs.Format.{lines_start};
 ghost use Rattle.sheet.specs.Reading.{sheet_of, counts_of, layout_checks, header_checks};
 ghost use Rattle.sheet.specs.Steps.{HeaderOf};
 ghost use Rattle.sheet.specs.Typed.{says, content_read};
@@ -17,34 +16,32 @@ use crate::shape::Shape;
 use crate::typed::Sheet;
 
 /// The counts that a header gives.
-fn read_counts(bytes: &[u8]) -> Counts
-    requires { lines_start ≤ length bytes.now }
-    ensures { result ≡ counts_of bytes.now }
+fn read_counts(header: &[u8; LINES_START]) -> Counts
+    ensures { result ≡ counts_of header.now }
 {
     Counts {
-        unknowns: field(bytes, UNKNOWNS_FIELD),
-        lines: field(bytes, LINES_FIELD),
-        forms: field(bytes, FORMS_FIELD),
+        unknowns: field(header, UNKNOWNS_FIELD),
+        lines: field(header, LINES_FIELD),
+        forms: field(header, FORMS_FIELD),
     }
 }
 
-/// Whether the offsets and the total are what the counts make them.
-fn check_layout(bytes: &[u8], shape: Shape) -> Result<(), Refusal>
-    requires { lines_start ≤ length bytes.now }
-    ensures { result ≡ judged (layout_checks bytes.now shape.counts) }
+/// Whether the offsets and the total are what the counts make them, and the sheet has `size` bytes.
+fn check_layout(header: &[u8; LINES_START], shape: Shape, size: usize) -> Result<(), Refusal>
+    ensures { result ≡ judged (layout_checks header.now shape.counts size) }
 {
-    if field(bytes, LINES_START_FIELD) != LINES_START {
+    if field(header, LINES_START_FIELD) != LINES_START {
         return Err(Refusal::Layout {
             byte: LINES_START_FIELD,
         });
     }
-    if field(bytes, FORMS_START_FIELD) != shape.forms().start {
+    if field(header, FORMS_START_FIELD) != shape.forms().start {
         return Err(Refusal::Layout {
             byte: FORMS_START_FIELD,
         });
     }
-    let total = field(bytes, TOTAL_FIELD);
-    if total != shape.total_length() || total != bytes.len() {
+    let total = field(header, TOTAL_FIELD);
+    if total != shape.total_length() || total != size {
         return Err(Refusal::Layout { byte: TOTAL_FIELD });
     }
     Ok(())
@@ -61,16 +58,16 @@ struct Header {
 fn read_header(bytes: &[u8]) -> Result<Header, Refusal>
     ensures { MatchResult result (λ h. HeaderOf bytes.now h.mark h.shape.counts) (λ e. judged (header_checks bytes.now) ≡ Err e) }
 {
-    if bytes.len() < LINES_START {
+    let Some(header) = bytes.first_chunk::<LINES_START>() else {
         return Err(Refusal::Short {
             length: bytes.len(),
         });
-    }
-    let Some(mark) = Mark::of(&bytes[0..4]) else {
+    };
+    let Some(mark) = Mark::of(&header[0..UNKNOWNS_FIELD]) else {
         return Err(Refusal::NoMark);
     };
-    let shape = Shape::try_from(read_counts(bytes))?;
-    check_layout(bytes, shape)?;
+    let shape = Shape::try_from(read_counts(header))?;
+    check_layout(header, shape, bytes.len())?;
     Ok(Header { mark, shape })
 }
 
