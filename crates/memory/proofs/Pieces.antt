@@ -1,7 +1,7 @@
 -- What is written over memory, byte by byte and piece after piece. Assumes nothing.
 use Rattle.std.proofs.Common.{◌≡◌, ℕ, ◌+◌, ◌*◌, ◌<◌, ◌≤◌, List, [], ◌∷◌, ◌++◌, length, get_or, take, drop, set, sym, refl, ap, ◌∙◌, append_assoc, append-nil, add_assoc, mul-le-mul_left, mul-suc, arith, length-append, length-take-le}
 use borrow.Rule.Slice.PartMut.{put_mid}
-use Rattle.std.proofs.lemmas.List.{take_at, drop_at, drop-drop, take-append-drop, take_more, take_all, take_more_set, take-set-le, drop-set, drop-set-lt, length_push}
+use Rattle.std.proofs.lemmas.List.{take_at, drop_at, drop-drop, take-append-drop, take_more, take_more_set, take-set-le, drop-set, drop-set-lt, length_push}
 use Rattle.std.proofs.lemmas.Grind.{flat_map-append}
 use Rattle.std.specs.List.{flat_map}
 use Rattle.memory.specs.Over.{over}
@@ -71,6 +71,3 @@ module _ {X : Type 0} (f : X → List ℕ) where
       (λ i. put_mid (at + w * k) n (e i) (is i))
       ∙ over_more at (flat_map f (take k xs)) m (at + w * k) (ap (λ i. at + i) long) (omega arith) (f (get_or xs k d)) n (h (get_or xs k d) ∙ sym same)
       ∙ ap (λ bs. over at bs m) (sym (flat_map_push xs k d lt))
-
-  pub pieces_all : (at : ℕ) (xs : List X) (m : List ℕ) (k : ℕ) → length xs ≤ k → over at (flat_map f (take k xs)) m ≡ over at (flat_map f xs) m
-  pieces_all at xs m k l = ap (λ ys. over at (flat_map f ys) m) (take_all k xs l)

@@ -1,10 +1,10 @@
 -- A block of numbers is judged by its first number that is out of range. Assumes nothing.
-use Rattle.std.proofs.Common.{◌≡◌, ℕ, ◌+◌, ◌-◌, ◌*◌, ◌/◌, ◌%◌, ◌<◌, ◌≤◌, Bool, true, false, ◌≢◌, List, [], ◌++◌, length, get_or, take, drop, set, ℤ, pos, Some, None, Option, IfSome, MatchOption, IsTrue, cond, nat_lt, Bor, Ok, Err, sym, refl, ap, subst, ◌∙◌, arith, get_or-set_other, get_or-set_same, w32, SFits, to_z, of_z, below_more}
+use Rattle.std.proofs.Common.{◌≡◌, ℕ, ◌+◌, ◌-◌, ◌*◌, ◌/◌, ◌%◌, ◌<◌, ◌≤◌, Bool, true, false, ◌≢◌, List, [], length, get_or, drop, set, ℤ, pos, Some, None, Option, IfSome, MatchOption, IsTrue, cond, nat_lt, Bor, Ok, Err, sym, refl, ap, subst, ◌∙◌, arith, get_or-set_other, get_or-set_same, w32, SFits, to_z, of_z, below_more}
 use Rattle.std.proofs.ByRecursion.{All-get_or}
-use Rattle.std.proofs.lemmas.List.{take_at, drop_all}
+use Rattle.std.proofs.lemmas.List.{drop_all}
 use Rattle.std.proofs.lemmas.Bool.{cond_below, cond_above}
 use Rattle.std.proofs.Math.Nat.{mul-mod_left, mul-div_cancel, lt_of_mul-lt-mul_right}
-use Rattle.std.proofs.lemmas.Nat.{mod-mul-add}
+use Rattle.std.proofs.lemmas.Nat.{mod-mul-add, mul-add-lt}
 use Rattle.std.proofs.lemmas.Int.{to_z-of_z}
 use Rattle.std.proofs.lemmas.List.FromFn.{length-map-range_with_len, get_or-map-range_with_len, fill_by_all}
 use Rattle.std.specs.Option.{option_map}
@@ -82,9 +82,6 @@ copied_more start bytes zs k z l e h =
 pub copied_all : (start : ℕ) (bytes : List ℕ) (zs : List ℤ) (count : ℕ) → length zs ≡ count → Copied start bytes zs count → zs ≡ numbers bytes start count
 copied_all start bytes zs count e h = fill_by_all (λ k. number_at bytes (start + 4 * k)) zs count (pos 0) e h
 
-pub take_front : (bytes : List ℕ) (start count : ℕ) (xs rest : List ℤ) → xs ≡ numbers bytes start count → take count (xs ++ rest) ≡ numbers bytes start count
-take_front bytes start count xs rest e = take_at xs rest count (ap length e ∙ length-numbers bytes start count) ∙ e
-
 -- h rows of w numbers leave nothing over
 pub no_remainder : (zs : List ℤ) (h w : ℕ) → length zs ≡ h * w → drop (length zs - length zs % w) zs ≡ []
 no_remainder zs h w e =
@@ -109,3 +106,7 @@ nth_row s zs h w i r wide rest size long runs some =
         let before : i < h = lt_of_mul-lt-mul_right w (omega arith) in
         let at : (length x.now ≡ w) × (i * w + w ≤ length zs) × IsSubsliceAt w zs (i * w) x.now = subst (λ o. IfSome o (λ x. (length x.now ≡ w) × (i * w + w ≤ length zs) × IsSubsliceAt w zs (i * w) x.now)) m.1 (run.2 i) in
         ap Some at.2.0 ∙ cond_below i h (Some (row w i zs)) None before
+
+-- row a and column b of a block lie in it
+pub inside : (a w b h : ℕ) → a < h → b < w → a * w + b < h * w
+inside a w b h p q = omega (arith, mul-add-lt a w b h p q)

@@ -8,9 +8,6 @@ use Rattle.sheet.specs.Checks.{Check, judged, after}
 pub judged_holds : (t : Bool) (e : Refusal) (cs : List Check) → t ≡ true → judged ((t, e) ∷ cs) ≡ judged cs
 judged_holds t e cs h = rw h
 
-pub judged_fails : (t : Bool) (e : Refusal) (cs : List Check) → t ≡ false → judged ((t, e) ∷ cs) ≡ Err e
-judged_fails t e cs h = rw h
-
 pub judged-append : (cs ds : List Check) → judged (cs ++ ds) ≡ after (judged cs) (λ _. judged ds)
 judged-append [] ds = refl
 judged-append ((true, e) ∷ cs) ds = judged-append cs ds

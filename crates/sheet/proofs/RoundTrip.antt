@@ -200,8 +200,12 @@ sound_from s room ok =
     let lens = long s.counts (length s.lines) (length s.forms) room b.0 in
     (record { counted = a.0; lines_long = lens.lines_long; forms_long = lens.forms_long; ranged = b.1 }, lens.holds)
 
+-- s is written: what that answers and leaves, and that it reads as s
+abbrev pub AllWritten : Content → (memory after : List ℕ) → ℕ → Type 0
+AllWritten s memory after n = (Ok n ≡ written s memory) × (after ≡ memory_after s memory) × (sheet_of (take n after) ≡ Ok s)
+
 -- the steps of writing: the header, the lines, the forms
-pub all_written : (s : Content) (memory first second last : List ℕ) (at n : ℕ) → judged (write_checks s.counts s.lines s.forms (length memory)) ≡ Ok tt → first ≡ over 0 (header_bytes s.mark s.counts) memory → second ≡ over 16 (flat_map number_bytes s.lines) first → at ≡ forms_start s.counts → last ≡ over at (flat_map number_bytes s.forms) second → n ≡ total_length s.counts → (Ok n ≡ written s memory) × (last ≡ memory_after s memory) × (sheet_of (take n last) ≡ Ok s)
+pub all_written : (s : Content) (memory first second last : List ℕ) (at n : ℕ) → judged (write_checks s.counts s.lines s.forms (length memory)) ≡ Ok tt → first ≡ over 0 (header_bytes s.mark s.counts) memory → second ≡ over 16 (flat_map number_bytes s.lines) first → at ≡ forms_start s.counts → last ≡ over at (flat_map number_bytes s.forms) second → n ≡ total_length s.counts → AllWritten s memory last n
 all_written s memory first second last at n ok p q r t u =
     let known = sound_from s (length memory) ok in
     let sound = known.0 in

@@ -1,12 +1,11 @@
 -- What the steps of writing a sheet show of `written`. Assumes nothing.
-use Rattle.std.proofs.Common.{◌≡◌, ℕ, ◌+◌, ◌*◌, ◌≤◌, List, ◌++◌, length, ℤ, Ok, Err, refl, ap, ◌∙◌, append_assoc, arith, length-append}
+use Rattle.std.proofs.Common.{◌≡◌, ℕ, ◌+◌, ◌*◌, ◌≤◌, List, ◌++◌, length, ℤ, Ok, refl, ap, ◌∙◌, append_assoc, arith, length-append}
 use Rattle.std.proofs.lemmas.Bool.{leb-true, eqb-true}
 use Rattle.std.specs.List.{flat_map}
 use Rattle.memory.specs.Over.{over}
 use Rattle.sheet.specs.declared.format.Counts.{Counts}
 use Rattle.sheet.specs.declared.format.Mark.{Mark}
 use Rattle.sheet.specs.declared.format.Mark.TheVariants.{Frac, Rest}
-use Rattle.sheet.specs.declared.refusal.Refusal.{Refusal}
 use Rattle.sheet.specs.Checks.{judged, after}
 use Rattle.sheet.specs.Format.{most_length, letters, header_fields, line_numbers, form_numbers, forms_start, total_length}
 use Rattle.sheet.specs.Numbers.{field_bytes, number_bytes}
@@ -26,12 +25,6 @@ pub long : (c : Counts) (lines forms room : ℕ) → judged (length_checks c lin
 long c lines forms room h =
     let a = holds_from_judged (length_checks c lines forms room) h in
     record { lines_long = eqb-true _ _ a.0; forms_long = eqb-true _ _ a.1.0; holds = leb-true _ _ a.1.1.0 }
-
--- counts that fail decide
-pub counts_stop : (c : Counts) (ls fs : List ℤ) (room : ℕ) (e : Refusal) → judged (count_checks c) ≡ Err e → judged (write_checks c ls fs room) ≡ Err e
-counts_stop c ls fs room e h =
-    let rest = length_checks c (length ls) (length fs) room ++ number_checks c ls fs in
-    judged-append (count_checks c) rest ∙ ap (λ r. after r (λ _. judged rest)) h
 
 -- past the counts and the lengths, the numbers decide
 pub numbers_left : (c : Counts) (ls fs : List ℤ) (room : ℕ) → judged (count_checks c) ≡ Ok tt → judged (length_checks c (length ls) (length fs) room) ≡ Ok tt → judged (write_checks c ls fs room) ≡ judged (number_checks c ls fs)

@@ -7,7 +7,7 @@
 --     IsForms c b          b is its forms
 use Rattle.std.specs.Prelude.{◌≡◌, ℕ, ◌+◌, ◌*◌, List, ℤ}
 use Rattle.sheet.specs.declared.format.Counts.{Counts}
-use Rattle.sheet.specs.declared.numbers.Block.{Block}
+use Rattle.sheet.specs.declared.block.Block.{Block}
 use Rattle.sheet.specs.Checks.{Check}
 use Rattle.sheet.specs.Format.{lines_start, forms_start}
 use Rattle.sheet.specs.Numbers.{numbers, block_checks}

@@ -2,8 +2,8 @@
 
 #![tactic(auto)]
 
+mod block;
 pub mod format;
-mod numbers;
 pub mod reader;
 pub mod refusal;
 mod rows;

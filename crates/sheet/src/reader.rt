@@ -10,10 +10,10 @@ use crate::format::{
     Counts, FORMS_FIELD, FORMS_START_FIELD, LINES_FIELD, LINES_START, LINES_START_FIELD, Mark,
     TOTAL_FIELD, UNKNOWNS_FIELD,
 };
-use crate::numbers::field;
 use crate::refusal::Refusal;
 use crate::shape::Shape;
 use crate::typed::Sheet;
+use crate::word::field;
 
 /// The counts that a header gives.
 fn read_counts(header: &[u8; LINES_START]) -> Counts

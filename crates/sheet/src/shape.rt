@@ -5,8 +5,8 @@ ghost use Rattle.sheet.specs.Blocks.{count, IsLines, IsForms};
 ghost use Rattle.sheet.specs.Format.{most_line_numbers, most_form_numbers, most_length, total_length};
 ghost use Rattle.sheet.specs.Reading.{count_checks};
 
+use crate::block::Block;
 use crate::format::{Counts, LINES_START};
-use crate::numbers::Block;
 use crate::refusal::Refusal;
 
 /// Counts that are each in range, and so settle where everything in a sheet stands.

@@ -1,8 +1,24 @@
-// Numbers as bytes in lent memory, low byte first: the fields of a header, and the numbers of lines and forms.
+// Numbers as bytes, low byte first: the fields of a header, and the numbers of lines and forms.
 ghost use Rattle.std.specs.Prelude.{◌≡◌, ℕ, ◌+◌, ◌*◌, ◌≤◌, List, length, refl};
 ghost use Rattle.std.specs.List.{flat_map};
 ghost use Rattle.memory.specs.Over.{over};
-ghost use Rattle.sheet.specs.Numbers.{field_bytes, number_bytes};
+ghost use Rattle.sheet.specs.Numbers.{field_at, number_at, field_bytes, number_bytes};
+
+/// The unsigned number of two bytes that begins at the byte `at`.
+pub(crate) fn field(bytes: &[u8], at: usize) -> usize
+    requires { at + 2 ≤ length bytes.now }
+    ensures { result ≡ field_at bytes.now at }
+{
+    u16::from_le_bytes([bytes[at], bytes[at + 1]]) as usize
+}
+
+/// The signed number of four bytes that begins at the byte `at`.
+pub(crate) fn number(bytes: &[u8], at: usize) -> i32
+    requires { at + 4 ≤ length bytes.now }
+    ensures { result ≡ number_at bytes.now at }
+{
+    i32::from_le_bytes([bytes[at], bytes[at + 1], bytes[at + 2], bytes[at + 3]])
+}
 
 /// A number that is written as a few bytes, always as many.
 pub(crate) trait Word: Copy {

@@ -1,33 +1,14 @@
-use Rattle.std.proofs.Common.{◌≡◌, ℕ, ◌+◌, ◌*◌, ◌<◌, Err, sym, ap, ◌∙◌, arith, w32, SFits, rules, below_more}
-use Rattle.std.proofs.lemmas.Nat.{mul-add-lt, mod-mul-add}
+use Rattle.std.proofs.Common.{◌≡◌, ◌+◌, ◌*◌, Err, sym, ap, ◌∙◌, arith, w32, SFits, rules, below_more}
+use Rattle.std.proofs.lemmas.Nat.{mod-mul-add}
 use Rattle.std.proofs.lemmas.Int.{to_z-of_z}
 use Rattle.sheet.specs.declared.refusal.Refusal.TheVariants.{Number}
 use Rattle.sheet.proofs.Judged.{made_at}
-use Rattle.sheet.proofs.Blocks.{fine_all, fine_stops, in_column, copied_more, copied_all}
-use Rattle.sheet.proofs.numbers.Block.read_into.Goals as goal
-
--- row a and column b of a block lie in it
-inside : {a w b h : ℕ} → a < h → b < w → a * w + b < w * h
-inside {a} {w} {b} {h} p q = mul-add-lt a w b h p q
-
-pub overflow_mul-byte : goal.overflow_mul-byte
-overflow_mul-byte c = let h = inside c.rows-test.true c.loop-column-test.true in search rules
-
-pub overflow_add-byte : goal.overflow_add-byte
-overflow_add-byte c = let h = inside c.rows-test.true c.loop-column-test.true in search rules
-
-pub number-x-requires : goal.number-x-requires
-number-x-requires c = let h = inside c.rows-test.true c.loop-column-test.true in search rules
-
-pub offset_bounds-into-place : goal.offset_bounds-into-place
-offset_bounds-into-place c = let h = inside c.rows-test.true c.loop-column-test.true in search rules
-
-pub bounds-into-place : goal.bounds-into-place
-bounds-into-place c = let h = inside c.rows-test.true c.loop-column-test.true in search rules
+use Rattle.sheet.proofs.Blocks.{inside, fine_all, fine_stops, in_column, copied_more, copied_all}
+use Rattle.sheet.proofs.block.Block.read_into.Goals as goal
 
 pub loop-column-preserved : goal.loop-column-preserved
 loop-column-preserved c =
-    let h = inside c.rows-test.true c.loop-column-test.true in
+    let h = inside c.rows.row c.args.self.width c.loop-column.column c.args.self.rows c.rows-test.true c.loop-column-test.true in
     let f : SFits w32 c.number-x.result = search rules in
     let here = in_column c.args.self.unknowns c.args.self.width c.rows.row c.loop-column.column _ _ _ c.loop-column-test.true f c.number-x.ensures c.takes.ensures ∙ c.if-not-takes.false in (
       c.loop-column.invariant.0,
@@ -45,7 +26,7 @@ returns-after-rows c =
 pub returns-then-not-takes : goal.returns-then-not-takes
 returns-then-not-takes c =
     let f : SFits w32 c.number-x.result = search rules in
-    let h = inside c.rows-test.true c.loop-column-test.true in
+    let h = inside c.rows.row c.args.self.width c.loop-column.column c.args.self.rows c.rows-test.true c.loop-column-test.true in
     let here = in_column c.args.self.unknowns c.args.self.width c.rows.row c.loop-column.column _ _ _ c.loop-column-test.true f c.number-x.ensures c.takes.ensures ∙ c.if-not-takes.true in
     let at = c.rows.row * c.args.self.width + c.loop-column.column in
     record {

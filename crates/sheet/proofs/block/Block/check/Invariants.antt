@@ -1,5 +1,5 @@
 use Rattle.sheet.proofs.Blocks.{Passed}
-use Rattle.sheet.proofs.numbers.Block.check.Given as goal
+use Rattle.sheet.proofs.block.Block.check.Given as goal
 
 abbrev pub invariant-loop-k : goal.invariant-loop-k
 invariant-loop-k l = Passed l.self.unknowns l.self.width l.self.start l.numbers l.k

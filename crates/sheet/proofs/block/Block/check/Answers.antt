@@ -2,7 +2,7 @@ use Rattle.std.proofs.Common.{◌%◌, get_or, pos, sym, ap, ◌∙◌, arith, w
 use Rattle.std.proofs.lemmas.Int.{to_z-of_z}
 use Rattle.sheet.specs.Numbers.{in_range}
 use Rattle.sheet.proofs.Blocks.{block_stops, block_passed}
-use Rattle.sheet.proofs.numbers.Block.check.Goals as goal
+use Rattle.sheet.proofs.block.Block.check.Goals as goal
 
 pub loop-k-preserved : goal.loop-k-preserved
 loop-k-preserved c =

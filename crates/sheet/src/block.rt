@@ -1,28 +1,13 @@
-// The numbers of a sheet: how they stand in its bytes, and which range each has to lie in.
+// Rows of numbers in a sheet, and which range each number has to lie in.
 ghost use Rattle.std.specs.Prelude.{◌≡◌, ◌+◌, ◌*◌, ◌≤◌, length, OnOk};
 ghost use Rattle.sheet.specs.Checks.{judged};
 ghost use Rattle.sheet.specs.Format.{most_length};
-ghost use Rattle.sheet.specs.Numbers.{field_at, number_at, in_range};
+ghost use Rattle.sheet.specs.Numbers.{in_range};
 ghost use Rattle.sheet.specs.Steps.{BlockRead};
 
 use crate::format::{COEFFICIENT_LIMIT, RIGHT_SIDE_LIMIT};
 use crate::refusal::Refusal;
-
-/// The unsigned number of two bytes that begins at the byte `at`.
-pub(crate) fn field(bytes: &[u8], at: usize) -> usize
-    requires { at + 2 ≤ length bytes.now }
-    ensures { result ≡ field_at bytes.now at }
-{
-    u16::from_le_bytes([bytes[at], bytes[at + 1]]) as usize
-}
-
-/// The signed number of four bytes that begins at the byte `at`.
-pub(crate) fn number(bytes: &[u8], at: usize) -> i32
-    requires { at + 4 ≤ length bytes.now }
-    ensures { result ≡ number_at bytes.now at }
-{
-    i32::from_le_bytes([bytes[at], bytes[at + 1], bytes[at + 2], bytes[at + 3]])
-}
+use crate::word::number;
 
 /// Rows of numbers, one after another: the lines of a sheet, or its forms. It ends within the largest sheet.
 #[derive(Clone, Copy)]
@@ -85,6 +70,7 @@ impl Block {
     }
 
     /// Reads its numbers into `into`, up to the first that is out of range.
+    #[tactic(auto, using(crate::proofs::Blocks::inside))]
     fn read_into(self, bytes: &[u8], into: &mut [i32]) -> Result<(), Refusal>
         requires inside { end_of self ≤ length bytes.now }
         requires room { length into.old ≡ count self }
