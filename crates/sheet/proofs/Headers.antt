@@ -34,28 +34,38 @@ module _ {bytes header : List ℕ} (first : IsFirstChunk bytes header 16) where
   front_same : take 4 header ≡ take 4 bytes
   front_same = ap (take 4) first.same ∙ take-take 4 16 bytes (omega arith)
 
-  -- past the mark and the counts, the layout decides
-  module _ {m : Mark} {c : Counts} (marked : mark_of (take 4 header) ≡ Some m) (counted : c ≡ counts_of header) (small : judged (count_checks c) ≡ Ok tt) where
+  -- past the mark, the counts decide and then the layout
+  module _ {m : Mark} (marked : mark_of (take 4 header) ≡ Some m) where
     mark_is : mark_of (take 4 bytes) ≡ Some m
     mark_is = ap mark_of (sym front_same) ∙ marked
 
-    counts_are : counts_of bytes ≡ c
-    counts_are = sym (counted ∙ counts_same)
-
-    decides : judged (header_checks bytes) ≡ judged (layout_checks header c (length bytes))
-    decides =
-        let rest = count_checks (counts_of bytes) ++ layout_checks bytes (counts_of bytes) (length bytes) in
+    past_mark : judged (header_checks bytes) ≡ after (judged (count_checks (counts_of bytes))) (λ _. judged (layout_checks bytes (counts_of bytes) (length bytes)))
+    past_mark =
+        let layout = layout_checks bytes (counts_of bytes) (length bytes) in
+        let rest = count_checks (counts_of bytes) ++ layout in
         judged_holds _ (Short (length bytes)) ((is_some (mark_of (take 4 bytes)), NoMark) ∷ rest) (le-leb 16 (length bytes) first.enough)
         ∙ judged_holds _ NoMark rest (ap is_some mark_is)
-        ∙ ap (λ d. judged (count_checks d ++ layout_checks bytes d (length bytes))) counts_are
-        ∙ judged-append (count_checks c) (layout_checks bytes c (length bytes))
-        ∙ ap (λ r. after r (λ _. judged (layout_checks bytes c (length bytes)))) small
-        ∙ ap judged (sym (layout_same c (length bytes)))
+        ∙ judged-append (count_checks (counts_of bytes)) layout
 
-    pub header_stops : (e : Refusal) → judged (layout_checks header c (length bytes)) ≡ Err e → judged (header_checks bytes) ≡ Err e
-    header_stops e h = decides ∙ h
+    pub counts_stop : (e : Refusal) → judged (count_checks (counts_of header)) ≡ Err e → judged (header_checks bytes) ≡ Err e
+    counts_stop e h =
+        past_mark ∙ ap (λ r. after r (λ _. judged (layout_checks bytes (counts_of bytes) (length bytes)))) (ap (λ c. judged (count_checks c)) (sym counts_same) ∙ h)
 
-    pub header_passes : judged (layout_checks header c (length bytes)) ≡ Ok tt → HeaderOf bytes m c
-    header_passes h =
-        let total = and_parts _ _ (holds_from_judged (layout_checks header c (length bytes)) h).1.1.0 in
-        record { passes = decides ∙ h; marked = mark_is; counted = counts_are; small = small; long = sym (eqb-true _ _ total.0) ∙ eqb-true _ _ total.1 }
+    module _ {c : Counts} (counted : c ≡ counts_of header) (small : judged (count_checks c) ≡ Ok tt) where
+      counts_are : counts_of bytes ≡ c
+      counts_are = sym (counted ∙ counts_same)
+
+      decides : judged (header_checks bytes) ≡ judged (layout_checks header c (length bytes))
+      decides =
+          past_mark
+          ∙ ap (λ d. after (judged (count_checks d)) (λ _. judged (layout_checks bytes d (length bytes)))) counts_are
+          ∙ ap (λ r. after r (λ _. judged (layout_checks bytes c (length bytes)))) small
+          ∙ ap judged (sym (layout_same c (length bytes)))
+
+      pub layout_stops : (e : Refusal) → judged (layout_checks header c (length bytes)) ≡ Err e → judged (header_checks bytes) ≡ Err e
+      layout_stops e h = decides ∙ h
+
+      pub header_passes : judged (layout_checks header c (length bytes)) ≡ Ok tt → HeaderOf bytes m c
+      header_passes h =
+          let total = and_parts _ _ (holds_from_judged (layout_checks header c (length bytes)) h).1.1.0 in
+          record { passes = decides ∙ h; marked = mark_is; counted = counts_are; small = small; long = sym (eqb-true _ _ total.0) ∙ eqb-true _ _ total.1 }

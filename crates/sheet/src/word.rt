@@ -20,15 +20,16 @@ pub(crate) fn number(bytes: &[u8], at: usize) -> i32
     i32::from_le_bytes([bytes[at], bytes[at + 1], bytes[at + 2], bytes[at + 3]])
 }
 
-/// A number that is written as a few bytes, always as many.
+/// A number that is written as bytes, always as many.
 pub(crate) trait Word: Copy {
-    /// How many.
+    /// How many bytes it has.
     const BYTES: usize;
 
     ghost BYTES: { ℕ };
 
     ghost bytes_of: { Self → List ℕ };
 
+    /// Writes it over `into`.
     fn put(self, into: &mut [u8])
         requires { length into.old ≡ BYTES }
         ensures { into.new ≡ bytes_of self };

@@ -4,12 +4,6 @@ use Rattle.sheet.specs.Numbers.{in_range}
 use Rattle.sheet.proofs.Blocks.{block_stops, block_passed}
 use Rattle.sheet.proofs.block.Block.check.Goals as goal
 
-pub loop-k-preserved : goal.loop-k-preserved
-loop-k-preserved c =
-    let x = get_or c.args.numbers.now c.loop-k.k (pos 0) in
-    let f : SFits w32 x = search rules in
-    below_more _ _ c.loop-k.invariant (ap (in_range c.args.self.unknowns (c.loop-k.k % c.args.self.width)) (sym (to_z-of_z w32 x f)) ∙ sym c.takes.ensures ∙ c.if-not-takes.false)
-
 pub returns-then-not-takes : goal.returns-then-not-takes
 returns-then-not-takes c =
     let x = get_or c.args.numbers.now c.loop-k.k (pos 0) in
