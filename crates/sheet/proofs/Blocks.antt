@@ -1,11 +1,12 @@
 -- A block of numbers is judged by its first number that is out of range. Assumes nothing.
-use Rattle.std.proofs.Common.{◌≡◌, ℕ, ◌+◌, ◌-◌, ◌*◌, ◌/◌, ◌%◌, ◌<◌, ◌≤◌, Bool, true, false, ◌≢◌, List, [], length, get_or, drop, set, ℤ, pos, Some, None, Option, IfSome, MatchOption, IsTrue, cond, nat_lt, Bor, Ok, Err, sym, refl, ap, subst, ◌∙◌, arith, get_or-set_other, get_or-set_same, w32, SFits, to_z, of_z, below_more}
+use Rattle.std.proofs.Common.{◌≡◌, ℕ, ◌+◌, ◌-◌, ◌*◌, ◌/◌, ◌%◌, ◌<◌, ◌≤◌, Bool, true, false, List, [], length, get_or, drop, set, ℤ, pos, Some, None, Option, IfSome, MatchOption, IsTrue, cond, nat_lt, Bor, Ok, Err, sym, refl, ap, subst, ◌∙◌, arith, w32, SFits, to_z, of_z}
 use Rattle.std.proofs.ByRecursion.{All-get_or}
 use Rattle.std.proofs.lemmas.List.{drop_all}
 use Rattle.std.proofs.lemmas.Bool.{cond_below, cond_above}
 use Rattle.std.proofs.Math.Nat.{mul-mod_left, mul-div_cancel, lt_of_mul-lt-mul_right}
 use Rattle.std.proofs.lemmas.Nat.{mod-mul-add, mul-add-lt}
 use Rattle.std.proofs.lemmas.Int.{to_z-of_z}
+use Rattle.std.proofs.lemmas.List.Edits.{fill_by_more}
 use Rattle.std.proofs.lemmas.List.FromFn.{length-map-range_with_len, get_or-map-range_with_len, fill_by_all}
 use Rattle.std.specs.Option.{option_map}
 use Rattle.std.specs.List.{IsSubsliceAt}
@@ -77,7 +78,7 @@ Copied start bytes zs k = (t : ℕ) → t < k → get_or zs t (pos 0) ≡ number
 
 pub copied_more : (start : ℕ) (bytes : List ℕ) (zs : List ℤ) (k : ℕ) (z : ℤ) → k < length zs → z ≡ number_at bytes (start + 4 * k) → Copied start bytes zs k → Copied start bytes (set zs k z) (k + 1)
 copied_more start bytes zs k z l e h =
-    below_more _ _ (λ t m. let ne : t ≢ k = omega arith in rw get_or-set_other (h t m)) (rw get_or-set_same e)
+    subst (λ y. Copied start bytes (set zs k y) (k + 1)) (sym e) (fill_by_more (λ t. number_at bytes (start + 4 * t)) zs k (pos 0) l h)
 
 pub copied_all : (start : ℕ) (bytes : List ℕ) (zs : List ℤ) (count : ℕ) → length zs ≡ count → Copied start bytes zs count → zs ≡ numbers bytes start count
 copied_all start bytes zs count e h = fill_by_all (λ k. number_at bytes (start + 4 * k)) zs count (pos 0) e h

@@ -5,6 +5,7 @@ use Rattle.std.proofs.ByRecursion.{All-append, All-from_get_or}
 use Rattle.std.proofs.lemmas.Slice.Eq.{bytes_eq-Decides}
 use Rattle.std.proofs.lemmas.List.{take_all, drop-drop}
 use Rattle.std.proofs.lemmas.Grind.{flat_map-append}
+use Rattle.std.proofs.lemmas.Nat.{from_le_bytes-to_le_bytes_2}
 use Rattle.std.proofs.lemmas.Bool.{leb-true, le-leb, eq-eqb, and_from, and_parts, eqb-true}
 use Rattle.std.specs.List.{range_with_len, flat_map, AllByRecursion as All}
 use Rattle.std.specs.Str.{bytes_eq}
@@ -23,7 +24,7 @@ use Rattle.sheet.specs.Writing.{header_bytes, sheet_bytes, length_checks, write_
 use Rattle.sheet.proofs.Blocks.{block_holds, length-numbers}
 use Rattle.sheet.proofs.Judged.{Holds, holds_from_judged, judged_from_holds, judged_split}
 use Rattle.sheet.proofs.SheetOf.{small, lines_pass, sheet_passes}
-use Rattle.sheet.proofs.Words.{field_back, field_at-append, number_at-append, written_at, field_bytes_at, number_bytes_at}
+use Rattle.sheet.proofs.Words.{field_at-append, number_at-append, written_at, field_bytes_at, number_bytes_at}
 use Rattle.sheet.proofs.Written.{long, numbers_left, put_all, total_le, length-letters, length-header_bytes, length-numbers_bytes, length-sheet_bytes}
 
 -- a number in range fits 32 bits
@@ -45,12 +46,12 @@ fields_back m a b c d e f rest h =
     let fs = flat_map field_bytes (a ∷ b ∷ c ∷ d ∷ e ∷ f ∷ []) in
     let past : (k : ℕ) → field_at ((letters m ++ fs) ++ rest) (4 + k) ≡ field_at (fs ++ rest) k =
     λ k. ap (λ bs. field_at bs (4 + k)) (append_assoc (letters m) fs rest) ∙ ap (λ n. field_at (letters m ++ (fs ++ rest)) (n + k)) (sym (length-letters m)) ∙ field_at-append (letters m) (fs ++ rest) k in (
-      past 0 ∙ field_back a h.0,
-      past 2 ∙ field_back b h.1.0,
-      past 4 ∙ field_back c h.1.1.0,
-      past 6 ∙ field_back d h.1.1.1.0,
-      past 8 ∙ field_back e h.1.1.1.1.0,
-      past 10 ∙ field_back f h.1.1.1.1.1.0,
+      past 0 ∙ from_le_bytes-to_le_bytes_2 a h.0,
+      past 2 ∙ from_le_bytes-to_le_bytes_2 b h.1.0,
+      past 4 ∙ from_le_bytes-to_le_bytes_2 c h.1.1.0,
+      past 6 ∙ from_le_bytes-to_le_bytes_2 d h.1.1.1.0,
+      past 8 ∙ from_le_bytes-to_le_bytes_2 e h.1.1.1.1.0,
+      past 10 ∙ from_le_bytes-to_le_bytes_2 f h.1.1.1.1.1.0,
     )
 
 mark_back : (m : Mark) (bs rest : List ℕ) → mark_of (take 4 ((letters m ++ bs) ++ rest)) ≡ Some m

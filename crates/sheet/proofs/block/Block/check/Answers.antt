@@ -1,4 +1,4 @@
-use Rattle.std.proofs.Common.{◌%◌, get_or, pos, sym, ap, ◌∙◌, arith, w32, SFits, rules, below_more}
+use Rattle.std.proofs.Common.{◌%◌, get_or, pos, sym, ap, ◌∙◌, arith, w32, SFits, rules}
 use Rattle.std.proofs.lemmas.Int.{to_z-of_z}
 use Rattle.sheet.specs.Numbers.{in_range}
 use Rattle.sheet.proofs.Blocks.{block_stops, block_passed}

@@ -2,7 +2,6 @@ use Rattle.std.proofs.Common.{◌≡◌, ◌+◌, ◌*◌, Err, sym, ap, ◌∙�
 use Rattle.std.proofs.lemmas.Nat.{mod-mul-add}
 use Rattle.std.proofs.lemmas.Int.{to_z-of_z}
 use Rattle.sheet.specs.declared.refusal.Refusal.TheVariants.{Number}
-use Rattle.sheet.proofs.Judged.{made_at}
 use Rattle.sheet.proofs.Blocks.{inside, fine_all, fine_stops, in_column, copied_more, copied_all}
 use Rattle.sheet.proofs.block.Block.read_into.Goals as goal
 
@@ -21,7 +20,7 @@ returns-after-rows c =
     let e : c.rows.row ≡ c.args.self.rows = omega arith in
     let count = c.args.self.rows * c.args.self.width in
     let fine = fine_all _ _ _ _ count (rw e at c.rows.invariant.1) in
-    record { verdict = c.rows.invariant.0 ∙ sym fine; read = made_at _ c.rows.invariant.0 (copied_all _ _ _ count (c.rows.auto.into ∙ c.requires.room) (rw e at c.rows.invariant.2)) }
+    record { verdict = c.rows.invariant.0 ∙ sym fine; read = rw c.rows.invariant.0 (copied_all _ _ _ count (c.rows.auto.into ∙ c.requires.room) (rw e at c.rows.invariant.2)) }
 
 pub returns-then-not-takes : goal.returns-then-not-takes
 returns-then-not-takes c =
