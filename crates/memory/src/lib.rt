@@ -1,3 +1,3 @@
-// What is written over lent memory, as mathematics. It holds one definition and no code.
+// What is written over lent memory, as mathematics. All of it is definitions and lemmas.
 
 #![tactic(auto)]
