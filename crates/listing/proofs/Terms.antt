@@ -1,23 +1,15 @@
--- Terms and sums of them, as they are written. Assumes nothing.
-use Rattle.std.proofs.Common.{◌≡◌, ℕ, ◌+◌, ◌<◌, ◌≤◌, Bool, true, false, cond, List, [], ◌∷◌, ◌++◌, length, get_or, drop, ℤ, pos, negsuc, nat_abs, codes, decimal, sym, ap, ◌∙◌, append_assoc, arith, w32, SFits, of_z}
-use Rattle.std.proofs.lemmas.List.{drop_more, drop_all}
-use Rattle.std.proofs.lemmas.Bool.{cond-true, cond-false, eq-eqb, ne_eqb}
-use Rattle.std.specs.List.{flat_map}
-use Rattle.listing.specs.Listing.{Term, terms, term_text, first_sign, next_sign, next_text, terms_text}
-
-pub term_of_one : (k : ℕ) (c : ℤ) → nat_abs c ≡ 1 → codes "r" ++ decimal k ≡ term_text (k, c)
-term_of_one k c h = sym (ap (λ l. l ++ (codes "r" ++ decimal k)) (cond-true _ [] (decimal (nat_abs c) ++ codes " ") (eq-eqb (nat_abs c) 1 h)))
-
-pub term_of_more : (k : ℕ) (c : ℤ) (n : ℕ) → n ≡ nat_abs c → (n ≡ 1 → ⊥) → decimal n ++ (codes " r" ++ decimal k) ≡ term_text (k, c)
-term_of_more k c n e h =
-    ap (λ m. decimal m ++ (codes " r" ++ decimal k)) e
-    ∙ sym (append_assoc (decimal (nat_abs c)) (codes " ") (codes "r" ++ decimal k))
-    ∙ sym (ap (λ l. l ++ (codes "r" ++ decimal k)) (cond-false _ [] (decimal (nat_abs c) ++ codes " ") (ne_eqb (nat_abs c) 1 (λ f. h (e ∙ f)))))
-
--- what is left to write of a sum, where the first of cs is the k-th coefficient
-abbrev pub rest_text : Bool → List Term → List ℕ
-rest_text true ts = terms_text ts
-rest_text false ts = flat_map next_text ts
+-- The terms that are left of a sum while it is written. Assumes nothing.
+use Rattle.std.proofs.Common.{◌≡◌, ℕ, ◌+◌, Bool, true, false, List, [], ◌∷◌, Iter, Bor, ℤ, pos, negsuc, nat_abs, Some, None, sym, ap, subst, ◌∙◌, arith, w32, SFits, of_z}
+use denote.Param.Members.{Mut}
+use Rattle.std.specs.Fn.{CalledAt}
+use Rattle.std.specs.Iterator.{Yields, FindsItem}
+use Rattle.std.specs.Iterator.Adapters.{enumerate_source, enumerate_count, enumerate_steps}
+use Rattle.std.specs.List.{FoldsTo}
+use Rattle.std.specs.Slice.Iter.{iter_rest, iter_steps}
+use Rattle.std.specs.declared.iter.Enumerate.{Enumerate}
+use Rattle.std.proofs.lemmas.List.{nil_from_length}
+use Rattle.std.proofs.lemmas.Bool.{eq-eqb, ne_eqb}
+use Rattle.listing.specs.Listing.{Term, terms}
 
 terms_skip : (k : ℕ) (c : ℤ) (cs : List ℤ) → nat_abs c ≡ 0 → terms k (c ∷ cs) ≡ terms (k + 1) cs
 terms_skip k c cs h = rw (eq-eqb (nat_abs c) 0 h, terms)
@@ -25,32 +17,52 @@ terms_skip k c cs h = rw (eq-eqb (nat_abs c) 0 h, terms)
 terms_step : (k : ℕ) (c : ℤ) (cs : List ℤ) → (nat_abs c ≡ 0 → ⊥) → terms k (c ∷ cs) ≡ (k, c) ∷ terms (k + 1) cs
 terms_step k c cs h = rw (ne_eqb (nat_abs c) 0 h, terms)
 
--- a coefficient of zero adds nothing
-pub rest_skip : (first : Bool) (k : ℕ) (c : ℤ) (cs : List ℤ) → nat_abs c ≡ 0 → rest_text first (terms k (c ∷ cs)) ≡ rest_text first (terms (k + 1) cs)
-rest_skip first k c cs h = ap (rest_text first) (terms_skip k c cs h)
+-- the terms of the coefficients that an iterator has left
+abbrev pub terms_left : Enumerate (Iter ℤ) → List Term
+terms_left s = terms (enumerate_count s + 1) (iter_rest (enumerate_source s))
 
--- any other adds its term
-pub rest_step : (first : Bool) (k : ℕ) (c : ℤ) (cs : List ℤ) → (nat_abs c ≡ 0 → ⊥) → rest_text first (terms k (c ∷ cs)) ≡ (cond first (first_sign c) (next_sign c) ++ term_text (k, c)) ++ rest_text false (terms (k + 1) cs)
-rest_step true k c cs h = ap terms_text (terms_step k c cs h)
-rest_step false k c cs h = ap (flat_map next_text) (terms_step k c cs h)
+pub terms_left_start : (s : Enumerate (Iter ℤ)) (it : Iter ℤ) (cs : List ℤ) → enumerate_source s ≡ it → enumerate_count s ≡ 0 → iter_rest it ≡ cs → terms_left s ≡ terms 1 cs
+terms_left_start s it cs p q r = λ i. terms (q i + 1) ((ap iter_rest p ∙ r) i)
 
-module _ (xs : List ℤ) (k : ℕ) (l : k < length xs) (all : List ℕ) (first : Bool) (out : List ℕ) (inv : out ++ rest_text first (terms (k + 1) (drop k xs)) ≡ all) where
-  pub sum_skip : nat_abs (get_or xs k (pos 0)) ≡ 0 → out ++ rest_text first (terms (k + 1 + 1) (drop (k + 1) xs)) ≡ all
-  sum_skip h = ap (λ t. out ++ t) (sym (rest_skip first (k + 1) (get_or xs k (pos 0)) (drop (k + 1) xs) h) ∙ ap (λ cs. rest_text first (terms (k + 1) cs)) (sym (drop_more xs k (pos 0) l))) ∙ inv
+abbrev pub Counted : Type 0
+Counted = ℕ × Bor ℤ
 
-  pub sum_step : (nat_abs (get_or xs k (pos 0)) ≡ 0 → ⊥) → (c : ℤ) → c ≡ get_or xs k (pos 0) → (sign : List ℕ) → sign ≡ cond first (first_sign c) (next_sign c) → (out' : List ℕ) → out' ≡ out ++ (sign ++ term_text (k + 1, c)) → out' ++ rest_text false (terms (k + 1 + 1) (drop (k + 1) xs)) ≡ all
-  sum_step h c is sign e out' f =
-      let x = get_or xs k (pos 0) in
-      let more = rest_text false (terms (k + 1 + 1) (drop (k + 1) xs)) in
-      ap (λ l. l ++ more) (f ∙ ap (λ s. out ++ (s ++ term_text (k + 1, c))) e ∙ ap (λ z. out ++ (cond first (first_sign z) (next_sign z) ++ term_text (k + 1, z))) is)
-      ∙ append_assoc out (cond first (first_sign x) (next_sign x) ++ term_text (k + 1, x)) more
-      ∙ ap (λ t. out ++ t) (sym (rest_step first (k + 1) x (drop (k + 1) xs) h) ∙ ap (λ cs. rest_text first (terms (k + 1) cs)) (sym (drop_more xs k (pos 0) l)))
-      ∙ inv
+abbrev pub counted_term : Counted → Term
+counted_term x = (x.0 + 1, x.1.now)
 
--- nothing is left
-pub sum_all : (first : Bool) (k : ℕ) (xs : List ℤ) → length xs ≤ k → rest_text first (terms (k + 1) (drop k xs)) ≡ cond first (codes "0") []
-sum_all true k xs l = ap (λ cs. rest_text true (terms (k + 1) cs)) (drop_all k xs l)
-sum_all false k xs l = ap (λ cs. rest_text false (terms (k + 1) cs)) (drop_all k xs l)
+module _ (s t : Enumerate (Iter ℤ)) where
+  pub terms_left_none : enumerate_steps iter_steps s None t → terms_left s ≡ []
+  terms_left_none h = ap (terms (enumerate_count s + 1)) (nil_from_length (iter_rest (enumerate_source s)) h.0.0)
+
+  module _ (x : Counted) (h : enumerate_steps iter_steps s (Some x) t) where
+    one_more : (ts : List Term) → terms (x.0 + 1) (x.1.now ∷ iter_rest (enumerate_source t)) ≡ ts → terms_left s ≡ ts
+    one_more ts e = (λ i. terms (sym h.1 i + 1) (h.0 i)) ∙ e
+
+    next : terms (x.0 + 1 + 1) (iter_rest (enumerate_source t)) ≡ terms_left t
+    next = ap (λ n. terms (n + 1) (iter_rest (enumerate_source t))) (ap (λ n. n + 1) h.1 ∙ sym h.2)
+
+    pub terms_left_skip : nat_abs x.1.now ≡ 0 → terms_left s ≡ terms_left t
+    terms_left_skip zero = one_more _ (terms_skip (x.0 + 1) x.1.now (iter_rest (enumerate_source t)) zero) ∙ next
+
+    pub terms_left_step : (nat_abs x.1.now ≡ 0 → ⊥) → terms_left s ≡ counted_term x ∷ terms_left t
+    terms_left_step some = one_more _ (terms_step (x.0 + 1) x.1.now (iter_rest (enumerate_source t)) some) ∙ ap (λ ts. counted_term x ∷ ts) next
+
+-- `find`, where f answers whether a coefficient is not zero
+module _ {F : Type 0} (g : Mut F (Bor Counted × Unit {0}) Bool) (f : F) (skips : (x : Counted) (q : F) → CalledAt g f x false q → (q ≡ f) × (nat_abs x.1.now ≡ 0)) (stops : (x : Counted) (q : F) → CalledAt g f x true q → nat_abs x.1.now ≡ 0 → ⊥) where
+  passed : (xs : List Counted) (s t : Enumerate (Iter ℤ)) (f' : F) → Yields (enumerate_steps iter_steps) s xs t → FoldsTo (λ p x q. CalledAt g p x false q) f xs f' → (terms_left s ≡ terms_left t) × (f' ≡ f)
+  passed [] s t f' y o = (ap terms_left y, sym o)
+  passed (x ∷ xs) s t f' y o =
+      let here = skips x o.0 o.1 in
+      let more = passed xs y.0 t f' y.2 (subst (λ m. FoldsTo (λ p x q. CalledAt g p x false q) m xs f') here.0 o.2) in
+      (terms_left_skip s y.0 x y.1 here.1 ∙ more.0, more.1)
+
+  pub terms_left_found : (s u : Enumerate (Iter ℤ)) (x : Counted) → FindsItem (enumerate_steps iter_steps) g s f (Some x) u → terms_left s ≡ counted_term x ∷ terms_left u
+  terms_left_found s u x h =
+      let before = passed h.0 s h.2.0 h.1 h.2.1 h.3 in
+      before.0 ∙ terms_left_step h.2.0 u x h.2.2 (stops x h.4.0 (subst (λ m. CalledAt g m x true h.4.0) before.1 h.4.1))
+
+  pub terms_left_not_found : (s u : Enumerate (Iter ℤ)) → FindsItem (enumerate_steps iter_steps) g s f None u → terms_left s ≡ []
+  terms_left_not_found s u h = (passed h.0 s h.2.0 h.1 h.2.1 h.3).0 ∙ terms_left_none h.2.0 u h.2.2
 
 -- a signed number is zero exactly where its bits are
 pub zero_from_bits : (z : ℤ) → SFits w32 z → of_z w32 z ≡ 0 → nat_abs z ≡ 0

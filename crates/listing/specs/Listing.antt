@@ -4,9 +4,11 @@
 --     sum_text cs         the sum of the terms: `2 r1 - r2`, or `0` where there is none
 --     line_text s i       line i of the sheet s: `line 1: 2 r1 - r2 = 3`
 --     form_text s i       form i: `form 1: r1`
+--     row_text w n cs r   a row of either kind: its name w, its number n, its coefficients cs, and its right side r
+--     rows_text w n k zs  every row of k numbers that zs has, under the name w, with n coefficients
 --     refusal_text e      `refused 3 byte 4`
 --     listing bs          the text of the sheet bs, or why it is none
-use Rattle.std.specs.Prelude.{ℕ, ◌+◌, Bool, true, false, cond, List, [], ◌∷◌, ◌++◌, take, ℤ, pos, negsuc, Ok, Err, codes, decimal, ◌==◌, slice_index_or, unsigned_abs}
+use Rattle.std.specs.Prelude.{ℕ, ◌+◌, ◌/◌, Bool, true, false, cond, List, [], ◌∷◌, ◌++◌, length, take, ℤ, pos, negsuc, Some, None, Ok, Err, Option, codes, decimal, ◌==◌, slice_get, slice_index_or, unsigned_abs}
 use Rattle.std.specs.List.{range_with_len, flat_map}
 use Rattle.std.specs.Option.{unwrap_or}
 use Rattle.std.specs.Fmt.{signed_decimal}
@@ -58,6 +60,22 @@ line_text s i =
 
 abbrev pub form_text : Content → ℕ → List ℕ
 form_text s i = codes "form " ++ (decimal (i + 1) ++ (codes ": " ++ (sum_text (row s.counts.unknowns i s.forms) ++ codes "\n")))
+
+-- what a sum equals, where it has a right side
+abbrev pub right_text : Option ℤ → List ℕ
+right_text None = []
+right_text (Some z) = codes " = " ++ signed_decimal z
+
+-- both of these at once: a name, a number counted from 1, a sum, and its right side
+abbrev pub row_text : List ℕ → ℕ → List ℤ → Option ℤ → List ℕ
+row_text name number cs right = name ++ (codes " " ++ (decimal number ++ (codes ": " ++ (sum_text cs ++ (right_text right ++ codes "\n")))))
+
+-- row i of the numbers zs, where a row has w of them: the first `unknowns` are coefficients, and one more is a right side
+abbrev pub numbered_row : List ℕ → ℕ → ℕ → List ℤ → ℕ → List ℕ
+numbered_row name unknowns w zs i = row_text name (i + 1) (take unknowns (row w i zs)) (slice_get (row w i zs) unknowns)
+
+abbrev pub rows_text : List ℕ → ℕ → ℕ → List ℤ → List ℕ
+rows_text name unknowns w zs = flat_map (numbered_row name unknowns w zs) (range_with_len 0 (length zs / w))
 
 abbrev pub header_text : Content → List ℕ
 header_text s = letters s.mark ++ (codes " " ++ (decimal s.counts.unknowns ++ (codes " " ++ (decimal s.counts.lines ++ (codes " " ++ (decimal s.counts.forms ++ codes "\n"))))))

@@ -2,104 +2,146 @@
 
 #![tactic(auto)]
 
-ghost use Rattle.std.specs.Prelude.{◌≡◌, ◌+◌, ◌<◌, ◌++◌, IfOk, if◌then◌else◌, string_bytes, OnOk};
+ghost use Rattle.std.specs.Prelude.{◌≡◌, ◌+◌, ◌<◌, ◌≤◌, ◌^◌, length, take, slice_get, IfOk, Some, string_bytes};
+ghost use Rattle.std.specs.Fmt.{WritesOnOk};
+ghost use Rattle.std.specs.Slice.Iter.{chunks_exact_rest, chunks_exact_size};
 ghost use Rattle.sheet.specs.Format.{letters};
 ghost use Rattle.sheet.specs.Typed.{says};
-ghost use Rattle.listing.specs.Listing.{first_sign, next_sign, term_text, sum_text, line_text, form_text, lines_text, forms_text, header_text, sheet_text, refusal_text, listing};
-ghost use Rattle.listing.specs.Worked.{Worked};
+ghost use Rattle.listing.specs.Listing.{first_sign, next_sign, term_text, sum_text, row_text, rows_text, header_text, sheet_text, refusal_text, listing};
 
-use sheet::format::Mark;
+use sheet::format::{Counts, Mark};
 use sheet::reader::read;
 use sheet::refusal::Refusal;
 use sheet::typed::Sheet;
 use std::alloc::{AllocError, Global};
+use std::fmt;
+use std::slice::ChunksExact;
 use std::str::from_utf8;
 
-/// What stands before the term of a coefficient: its sign, and where it is not the first of its sum, blanks around that.
-fn sign(coefficient: i32, first: bool) -> &'static str
-    ensures { result.now ≡ (if first then first_sign coefficient else next_sign coefficient) }
+/// What stands before the first term of a sum.
+fn leading_sign(coefficient: i32) -> &'static str
+    ensures { result.now ≡ first_sign coefficient }
 {
-    match (first, coefficient < 0) {
-        (true, true) => "-",
-        (true, false) => "",
-        (false, true) => " - ",
-        (false, false) => " + ",
-    }
+    if coefficient < 0 { "-" } else { "" }
 }
 
-/// Adds the term of the unknown `k`, with what stands before it.
-fn push_term(out: &mut String, sign: &str, k: usize, coefficient: i32) -> Result<(), AllocError>
-    ensures { OnOk result (string_bytes out.new ≡ string_bytes out.old ++ (sign.now ++ term_text (k, coefficient))) }
+/// What stands before every other term: its sign, with blanks around it.
+fn joining_sign(coefficient: i32) -> &'static str
+    ensures { result.now ≡ next_sign coefficient }
 {
-    let size = coefficient.unsigned_abs();
-    if size == 1 {
-        write!(out, "{sign}r{k}")
-    } else {
-        write!(out, "{sign}{size} r{k}")
-    }
+    if coefficient < 0 { " - " } else { " + " }
 }
 
-/// Adds the sum of coefficients times unknowns, and 0 where all are zero.
-fn push_sum(out: &mut String, coefficients: &[i32]) -> Result<(), AllocError>
-    ensures { OnOk result (string_bytes out.new ≡ string_bytes out.old ++ sum_text coefficients.now) }
-{
-    let mut first = true;
-    for k in 0..coefficients.len() {
-        let coefficient = coefficients[k];
-        if coefficient != 0 {
-            push_term(out, sign(coefficient, first), k + 1, coefficient)?;
-            first = false;
+/// A coefficient that is not zero, and the number of its unknown. It is shown without its sign.
+#[derive(Clone, Copy)]
+struct Term {
+    unknown: usize,
+    coefficient: i32,
+}
+
+impl fmt::Display for Term {
+    ghost output = { λ t. Some (term_text (t.unknown, t.coefficient)) };
+
+    fn fmt<W: fmt::Write>(&self, f: &mut fmt::Formatter<W>) -> fmt::Result {
+        let unknown = self.unknown;
+        match self.coefficient.unsigned_abs() {
+            1 => write!(f, "r{unknown}"),
+            size => write!(f, "{size} r{unknown}"),
         }
     }
-    if first { write!(out, "0") } else { Ok(()) }
 }
 
-/// Adds line `i`, counted from 0, as an equation.
-fn push_line(out: &mut String, sheet: &Sheet, i: usize) -> Result<(), AllocError>
-    requires { i < (says sheet.now).counts.lines }
-    ensures { OnOk result (string_bytes out.new ≡ string_bytes out.old ++ line_text (says sheet.now) i) }
-{
-    let unknowns = sheet.counts().unknowns;
-    let Some(row) = sheet.line(i) else {
-        return Ok(());
-    };
-    let number = i + 1;
-    write!(out, "line {number}: ")?;
-    push_sum(out, &row[0..unknowns])?;
-    let right = row[unknowns];
-    write!(out, " = {right}\n")
-}
+/// The sum of coefficients times unknowns, which are numbered from 1.
+#[derive(Clone, Copy)]
+struct Sum<'a>(&'a [i32]);
 
-/// Adds form `i`, counted from 0, as a sum.
-fn push_form(out: &mut String, sheet: &Sheet, i: usize) -> Result<(), AllocError>
-    requires { i < (says sheet.now).counts.forms }
-    ensures { OnOk result (string_bytes out.new ≡ string_bytes out.old ++ form_text (says sheet.now) i) }
-{
-    let Some(row) = sheet.form(i) else {
-        return Ok(());
-    };
-    let number = i + 1;
-    write!(out, "form {number}: ")?;
-    push_sum(out, row)?;
-    write!(out, "\n")
-}
+impl fmt::Display for Sum<'_> {
+    ghost output = { λ s. Some (sum_text s.0.now) };
 
-/// Adds every line.
-fn push_lines(out: &mut String, sheet: &Sheet) -> Result<(), AllocError>
-    ensures { OnOk result (string_bytes out.new ≡ string_bytes out.old ++ lines_text (says sheet.now)) }
-{
-    for i in 0..sheet.counts().lines {
-        push_line(out, sheet, i)?;
+    fn fmt<W: fmt::Write>(&self, f: &mut fmt::Formatter<W>) -> fmt::Result {
+        let mut coefficients = self.0.iter().enumerate();
+        let Some((k, &coefficient)) = coefficients.find(|&(_, &c)| c != 0) else {
+            return write!(f, "0");
+        };
+        let term = Term {
+            unknown: k + 1,
+            coefficient,
+        };
+        write!(f, "{}{term}", leading_sign(coefficient))?;
+        for (k, &coefficient) in coefficients {
+            if coefficient != 0 {
+                let term = Term {
+                    unknown: k + 1,
+                    coefficient,
+                };
+                write!(f, "{}{term}", joining_sign(coefficient))?;
+            }
+        }
+        Ok(())
     }
-    Ok(())
 }
 
-/// Adds every form.
-fn push_forms(out: &mut String, sheet: &Sheet) -> Result<(), AllocError>
-    ensures { OnOk result (string_bytes out.new ≡ string_bytes out.old ++ forms_text (says sheet.now)) }
+/// A line or a form: its name, its number, its sum, and what a line's sum equals.
+#[derive(Clone, Copy)]
+struct Row<'a> {
+    name: &'static str,
+    number: usize,
+    sum: Sum<'a>,
+    right: Option<i32>,
+}
+
+impl<'a> Row<'a> {
+    /// Row `i`, counted from 0: the first `unknowns` of its numbers are coefficients, and one more is a right side.
+    fn new(name: &'static str, i: usize, numbers: &'a [i32], unknowns: usize) -> Row<'a>
+        requires place { i + 1 < 2 ^ 64 }
+        requires wide { unknowns ≤ length numbers.now }
+        ensures name { result.name.now ≡ name.now }
+        ensures number { result.number ≡ i + 1 }
+        ensures sum { result.sum.0.now ≡ take unknowns numbers.now }
+        ensures right { result.right ≡ slice_get numbers.now unknowns }
+    {
+        let (coefficients, right) = numbers.split_at(unknowns);
+        Row {
+            name,
+            number: i + 1,
+            sum: Sum(coefficients),
+            right: right.first().copied(),
+        }
+    }
+}
+
+impl fmt::Display for Row<'_> {
+    ghost output = { λ r. Some (row_text r.name.now r.number r.sum.0.now r.right) };
+
+    fn fmt<W: fmt::Write>(&self, f: &mut fmt::Formatter<W>) -> fmt::Result {
+        let Row {
+            name,
+            number,
+            sum,
+            right,
+        } = *self;
+        write!(f, "{name} {number}: {sum}")?;
+        match right {
+            Some(right) => writeln!(f, " = {right}"),
+            None => writeln!(f),
+        }
+    }
+}
+
+/// Writes rows under their name, numbered from 1. The first `unknowns` numbers of each are coefficients, and a line has one
+/// more, its right side.
+fn write_rows<W: fmt::Write>(
+    f: &mut fmt::Formatter<W>,
+    name: &'static str,
+    unknowns: usize,
+    rows: ChunksExact<'_, i32>,
+) -> fmt::Result
+    requires some { 0 < chunks_exact_size rows }
+    requires wide { unknowns ≤ chunks_exact_size rows }
+    ensures { WritesOnOk W.write_str_gives f.old result (rows_text name.now unknowns (chunks_exact_size rows.entry) (chunks_exact_rest rows.entry)) f.new }
 {
-    for i in 0..sheet.counts().forms {
-        push_form(out, sheet, i)?;
+    for (i, row) in rows.enumerate() {
+        write!(f, "{}", Row::new(name, i, row, unknowns))?;
     }
     Ok(())
 }
@@ -114,49 +156,60 @@ fn mark_text(mark: Mark) -> &'static str
     }
 }
 
-/// Adds the first line of the listing: the mark and the counts.
-fn push_header(out: &mut String, sheet: &Sheet) -> Result<(), AllocError>
-    ensures { OnOk result (string_bytes out.new ≡ string_bytes out.old ++ header_text (says sheet.now)) }
-{
-    let mark = mark_text(sheet.mark());
-    let counts = sheet.counts();
-    let unknowns = counts.unknowns;
-    let lines = counts.lines;
-    let forms = counts.forms;
-    write!(out, "{mark} {unknowns} {lines} {forms}\n")
+/// The first line of a listing: the mark and the counts.
+#[derive(Clone, Copy)]
+struct Header<'a>(&'a Sheet);
+
+impl fmt::Display for Header<'_> {
+    ghost output = { λ h. Some (header_text (says h.0.now)) };
+
+    fn fmt<W: fmt::Write>(&self, f: &mut fmt::Formatter<W>) -> fmt::Result {
+        let mark = mark_text(self.0.mark());
+        let Counts {
+            unknowns,
+            lines,
+            forms,
+        } = self.0.counts();
+        writeln!(f, "{mark} {unknowns} {lines} {forms}")
+    }
 }
 
-/// Adds the listing of a sheet.
-fn push_sheet(out: &mut String, sheet: &Sheet) -> Result<(), AllocError>
-    ensures { OnOk result (string_bytes out.new ≡ string_bytes out.old ++ sheet_text (says sheet.now)) }
-{
-    push_header(out, sheet)?;
-    push_lines(out, sheet)?;
-    push_forms(out, sheet)
+/// The listing of a sheet.
+#[derive(Clone, Copy)]
+struct Listing<'a>(&'a Sheet);
+
+impl fmt::Display for Listing<'_> {
+    ghost output = { λ l. Some (sheet_text (says l.0.now)) };
+
+    fn fmt<W: fmt::Write>(&self, f: &mut fmt::Formatter<W>) -> fmt::Result {
+        let sheet = self.0;
+        let unknowns = sheet.counts().unknowns;
+        write!(f, "{}", Header(sheet))?;
+        write_rows(f, "line", unknowns, sheet.lines())?;
+        write_rows(f, "form", unknowns, sheet.forms())
+    }
 }
 
-/// Adds what is said of a sheet that is refused.
-fn push_refusal(out: &mut String, refusal: Refusal) -> Result<(), AllocError>
-    ensures { OnOk result (string_bytes out.new ≡ string_bytes out.old ++ refusal_text refusal) }
-{
-    let number = refusal.number();
-    let byte = refusal.byte().unwrap_or(0);
-    write!(out, "refused {number} byte {byte}\n")
+/// What is said of bytes that are no sheet.
+#[derive(Clone, Copy)]
+struct Refused(Refusal);
+
+impl fmt::Display for Refused {
+    ghost output = { λ r. Some (refusal_text r.0) };
+
+    fn fmt<W: fmt::Write>(&self, f: &mut fmt::Formatter<W>) -> fmt::Result {
+        let number = self.0.number();
+        let byte = self.0.byte().unwrap_or(0);
+        writeln!(f, "refused {number} byte {byte}")
+    }
 }
 
 /// The listing of the sheet that some bytes are, or why they are none.
 pub fn list(heap: Global, bytes: &[u8]) -> Result<String, AllocError>
     ensures { IfOk result (λ s. string_bytes s ≡ listing bytes.now) }
 {
-    let mut out = String::new(heap);
     match read(bytes) {
-        Ok(sheet) => push_sheet(&mut out, &sheet)?,
-        Err(refusal) => push_refusal(&mut out, refusal)?,
+        Ok(sheet) => Listing(&sheet).to_string(heap),
+        Err(refusal) => Refused(refusal).to_string(heap),
     }
-    Ok(out)
 }
-
-/// Does nothing: its contract is that the definition of a listing gives what was worked out by hand.
-fn worked()
-    ensures { Worked }
-{}

@@ -18,8 +18,8 @@ use Rattle.remainders.specs.Moduli.{modulus}
 use Rattle.kinds.specs.Refusals.{reason_number}
 use Rattle.remainders.specs.Remainders.{rest_field, taken_r}
 use Rattle.listing.specs.Listing.{listing}
-use Rattle.listing.specs.Worked.{cases as sheets}
 use Rattle.texts.specs.Texts.{fraction_text, rest_text}
+use Rattle.worked.specs.Sheets.{sheets}
 
 pub data Case : Type 0 where
   -- a sheet, and its listing
@@ -46,7 +46,6 @@ holds (leaves r n) = r.value == n
 holds (fraction_shown q text) = bytes_eq (fraction_text q) text
 holds (remainder_shown r text) = bytes_eq (rest_text r) text
 
--- the sheets that were worked by hand with the listing, where they stand
 abbrev pub listings : List Case
 listings = map (λ c. listed c.0 c.1) sheets
 

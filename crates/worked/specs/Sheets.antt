@@ -1,12 +1,10 @@
 -- Sheets worked by hand, with the listing of each. Assumes nothing.
---     Worked            every one of them is listed as it should be
-use Rattle.std.specs.Prelude.{◌≡◌, ℕ, Bool, true, ◌&&◌, List, [], ◌∷◌, ◌++◌, codes}
-use Rattle.std.specs.Str.{bytes_eq}
-use Rattle.listing.specs.Listing.{listing}
+--     sheets            all of them
+use Rattle.std.specs.Prelude.{ℕ, List, [], ◌∷◌, ◌++◌, codes}
 
 -- a sheet, and its listing
-abbrev pub Case : Type 0
-Case = List ℕ × List ℕ
+abbrev pub Listed : Type 0
+Listed = List ℕ × List ℕ
 
 -- two unknowns, four lines, two forms
 abbrev pub two_rates : List ℕ
@@ -31,8 +29,8 @@ signs =
 abbrev pub one_form : List ℕ → List ℕ
 one_form x = codes "FRAC" ++ (1 ∷ 0 ∷ 0 ∷ 0 ∷ 1 ∷ 0 ∷ 16 ∷ 0 ∷ 16 ∷ 0 ∷ 20 ∷ 0 ∷ []) ++ x
 
-abbrev pub cases : List Case
-cases =
+abbrev pub sheets : List Listed
+sheets =
     (two_rates, codes "FRAC 2 4 2\nline 1: 2 r1 - r2 = 3\nline 2: 4 r1 - 2 r2 = 6\nline 3: 4 r1 - 2 r2 = 7\nline 4: r1 + r2 = 1\nform 1: r1\nform 2: r1 - 2 r2\n")
     ∷ (signs, codes "REST 2 2 1\nline 1: -3 r1 + r2 = -5\nline 2: 0 = 7\nform 1: 0\n")
     ∷ ([], codes "refused 1 byte 0\n")
@@ -45,10 +43,3 @@ cases =
     ∷ (one_form (192 ∷ 189 ∷ 240 ∷ 255 ∷ []), codes "FRAC 1 0 1\nform 1: -1000000 r1\n")
     ∷ (one_form (191 ∷ 189 ∷ 240 ∷ 255 ∷ []), codes "refused 7 byte 16\n")
     ∷ []
-
-abbrev pub all_listed : List Case → Bool
-all_listed [] = true
-all_listed (c ∷ cs) = bytes_eq (listing c.0) c.1 && all_listed cs
-
-abbrev pub Worked : Type 0
-Worked = all_listed cases ≡ true
