@@ -4,7 +4,7 @@
 
 #[cfg(test)]
 mod tests {
-    use sheet::format::{Counts, Mark};
+    use sheet::format::{Counts, FRAC, Mark};
     use sheet::reader::read;
     use sheet::refusal::Refusal;
     use sheet::writer::write;
@@ -54,6 +54,7 @@ mod tests {
     fn reads_back_what_it_wrote(rt: HostRuntime) -> Result<(), Fail> {
         let sheet = read(TWO_RATES)?;
         assert_eq!(rt; sheet.mark(), Mark::Frac);
+        assert!(rt; sheet.mark().letters() == FRAC);
         assert_eq!(rt; sheet.counts(), counts(2, 4, 2));
         assert!(rt; sheet.line(3).ok_or("line")? == [1, 1, 1].as_slice());
         assert!(rt; sheet.line(4).is_none());
