@@ -31,7 +31,7 @@ Holds c = c.0 ≡ true
 pub holds_from_judged : (cs : List Check) → judged cs ≡ Ok tt → All Holds cs
 holds_from_judged [] h = tt
 holds_from_judged ((true, e) ∷ cs) h = (refl, holds_from_judged cs h)
-holds_from_judged ((false, e) ∷ cs) h = let z : ◌≡◌ {A = ℕ} 0 1 = cc in absurd (omega arith)
+holds_from_judged ((false, e) ∷ cs) h = absurd (cc)
 
 pub judged_from_holds : (cs : List Check) → All Holds cs → judged cs ≡ Ok tt
 judged_from_holds [] h = refl
@@ -40,8 +40,8 @@ judged_from_holds (c ∷ cs) h = rw h.0 (judged_from_holds cs h.1)
 pub judged_split : (cs ds : List Check) → judged (cs ++ ds) ≡ Ok tt → (judged cs ≡ Ok tt) × (judged ds ≡ Ok tt)
 judged_split [] ds h = (refl, h)
 judged_split ((true, e) ∷ cs) ds h = judged_split cs ds h
-judged_split ((false, e) ∷ cs) ds h = let z : ◌≡◌ {A = ℕ} 0 1 = cc in absurd (omega arith)
+judged_split ((false, e) ∷ cs) ds h = absurd (cc)
 
 pub passed_from_ok : (r : Result (Unit {0}) Refusal) → is_ok r ≡ true → r ≡ Ok tt
 passed_from_ok (Ok u) h = refl
-passed_from_ok (Err e) h = let z : ◌≡◌ {A = ℕ} 0 1 = cc in absurd (omega arith)
+passed_from_ok (Err e) h = absurd (cc)

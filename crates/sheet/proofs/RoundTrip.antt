@@ -155,7 +155,7 @@ mark_letters bs m h = by_cases (bytes_eq bs (letters Frac)) (bytes_eq bs (letter
     by_cases : (f r : Bool) → (f ≡ true → bs ≡ letters Frac) → (r ≡ true → bs ≡ letters Rest) → cond f (Some Frac) (cond r (Some Rest) None) ≡ Some m → letters m ≡ bs
     by_cases true r p q e = let same : m ≡ Frac = cc in ap letters same ∙ sym (p refl)
     by_cases false true p q e = let same : m ≡ Rest = cc in ap letters same ∙ sym (q refl)
-    by_cases false false p q e = let z : ◌≡◌ {A = ℕ} 0 1 = cc in absurd (omega arith)
+    by_cases false false p q e = absurd (cc)
 
 -- a sheet that was read, over bytes
 module _ (bytes : List ℕ) (small : (i : ℕ) → get_or bytes i 0 < 256) (m : Mark) (c : Counts) (header : HeaderOf bytes m c) where
