@@ -79,8 +79,8 @@ fn number<K: Kind>(of: (i32, i32)) -> Result<K, Refusal> {
 }
 
 fn table<K: Print>(out: &mut String) -> anyhow::Result<()> {
-    let mark = K::MARK;
-    let longest = K::LONGEST;
+    let mark = K::mark_letters();
+    let longest = K::longest_text();
     let text = from_utf8(&mark)?;
     write!(out, "{text} {longest}\n")?;
     for left in NUMBERS {

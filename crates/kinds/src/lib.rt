@@ -41,6 +41,20 @@ pub trait Kind: Copy + From<Whole> {
 
     ghost LONGEST: { ℕ };
 
+    /// `MARK`, as a function.
+    final fn mark_letters() -> [u8; 4]
+        ensures { result ≡ MARK }
+    {
+        Self::MARK
+    }
+
+    /// `LONGEST`, as a function.
+    final fn longest_text() -> usize
+        ensures { result ≡ LONGEST }
+    {
+        Self::LONGEST
+    }
+
     /// A whole number as a value.
     fn take(whole: i32) -> Result<Self, Refusal>
         ensures { Takes exact taken whole result }
