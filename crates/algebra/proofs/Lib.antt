@@ -1,3 +1,4 @@
+pub mod FieldRing
 pub mod FieldLaws
 pub mod FractionLaws
 pub mod FractionField

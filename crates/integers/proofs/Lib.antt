@@ -1,4 +1,6 @@
 pub mod Equations
+pub mod Ring
+pub mod RingInt
 pub mod GcdLaws
 pub mod Bezout
 pub mod Sizes

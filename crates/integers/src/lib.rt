@@ -1,3 +1,3 @@
-// Whole numbers as mathematics: equations, divisors, primes. All of it is definitions and lemmas.
+// Whole numbers as mathematics: a solver for equations in rings, divisors, primes. All of it is definitions and lemmas.
 
 #![tactic(auto)]
