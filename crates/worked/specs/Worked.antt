@@ -9,7 +9,7 @@ use Rattle.std.specs.Option.{is_none}
 use Rattle.std.specs.Ordering.{int_eq}
 use Rattle.std.specs.Str.{bytes_eq}
 use Rattle.algebra.specs.Field.{less, divided}
-use Rattle.algebra.specs.Fraction.{Q, ratio, plus_q, times_q}
+use Rattle.algebra.specs.Fraction.{Q, ratio}
 use Rattle.algebra.specs.Remainder.{Rem}
 use Rattle.algebra.proofs.FractionField.{field_q}
 use Rattle.kinds.specs.declared.refusal.Reason.{Reason}
@@ -51,17 +51,17 @@ listings = map (λ c. listed c.0 c.1) sheets
 
 abbrev pub fractions : List Case
 fractions =
-    fits (times_q (ratio (pos 1) 46340) (ratio (pos 1) 46340)) (pos 1) 2147395600
-    ∷ refused (times_q (ratio (pos 1) 46341) (ratio (pos 1) 46341)) 14
-    ∷ fits (times_q (ratio (pos 46341) 46340) (ratio (pos 46340) 46341)) (pos 1) 1
-    ∷ fits (times_q (ratio (pos 2147483647) 2) (ratio (negsuc 1) 2147483647)) (negsuc 0) 1
-    ∷ fits (plus_q (ratio (pos 1) 2) (ratio (pos 1) 3)) (pos 5) 6
-    ∷ fits (plus_q (ratio (pos 1) 6) (ratio (pos 1) 10)) (pos 4) 15
-    ∷ fits (plus_q (ratio (pos 2147483646) 1) (ratio (pos 1) 1)) (pos 2147483647) 1
-    ∷ refused (plus_q (ratio (pos 2147483647) 1) (ratio (pos 1) 1)) 14
+    fits (field_q.times (ratio (pos 1) 46340) (ratio (pos 1) 46340)) (pos 1) 2147395600
+    ∷ refused (field_q.times (ratio (pos 1) 46341) (ratio (pos 1) 46341)) 14
+    ∷ fits (field_q.times (ratio (pos 46341) 46340) (ratio (pos 46340) 46341)) (pos 1) 1
+    ∷ fits (field_q.times (ratio (pos 2147483647) 2) (ratio (negsuc 1) 2147483647)) (negsuc 0) 1
+    ∷ fits (field_q.plus (ratio (pos 1) 2) (ratio (pos 1) 3)) (pos 5) 6
+    ∷ fits (field_q.plus (ratio (pos 1) 6) (ratio (pos 1) 10)) (pos 4) 15
+    ∷ fits (field_q.plus (ratio (pos 2147483646) 1) (ratio (pos 1) 1)) (pos 2147483647) 1
+    ∷ refused (field_q.plus (ratio (pos 2147483647) 1) (ratio (pos 1) 1)) 14
     ∷ fits (less field_q (ratio (negsuc 2147483645) 1) (ratio (pos 1) 1)) (negsuc 2147483646) 1
     ∷ refused (less field_q (ratio (negsuc 2147483646) 1) (ratio (pos 1) 1)) 14
-    ∷ refused (plus_q (ratio (pos 1) 2147483647) (ratio (pos 1) 2)) 14
+    ∷ refused (field_q.plus (ratio (pos 1) 2147483647) (ratio (pos 1) 2)) 14
     ∷ fits (divided field_q (ratio (negsuc 3) 6) (ratio (negsuc 1) 9)) (pos 3) 1
     ∷ fits (divided field_q (ratio (pos 1) 1) (ratio (negsuc 2147483646) 1)) (negsuc 0) 2147483647
     ∷ []
