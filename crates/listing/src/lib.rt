@@ -1,4 +1,4 @@
-// The text of a sheet, so that a person can hold it against the client's paper.
+// The text of a sheet, so that a person can hold it against the client's own figures.
 
 #![tactic(auto)]
 

@@ -12,8 +12,11 @@ use kinds::refusal::Refusal;
 pub mod fraction_text;
 pub mod remainder_text;
 
-/// Room for a text of any kind, on the stack.
-pub type Text = ArrayString<22>;
+/// How many bytes the longest text of all kinds has.
+pub const ROOM: usize = 22;
+
+/// The text of a value, on the stack.
+pub type Text = ArrayString<ROOM>;
 
 /// A kind of number whose values can be printed.
 pub trait Print: Kind {
