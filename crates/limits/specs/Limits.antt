@@ -1,4 +1,4 @@
--- What the kinds of number share. Assumes nothing.
+-- What the sheet and the kinds of number share. Assumes nothing.
 --     frac_letters, rest_letters   the four letters by which a kind of number is marked
 --     most_unknowns                unknowns are 1 to this
 --     coefficient_limit            how far from zero a coefficient may lie

@@ -1,4 +1,4 @@
-// What the kinds of number share: their letters, how many unknowns there may be, how large a number.
+// What the sheet and the kinds of number share: their letters, how many unknowns there may be, how large a number.
 
 #![tactic(auto)]
 
