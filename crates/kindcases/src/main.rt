@@ -10,7 +10,7 @@ use remainders::Remainder;
 use std::str::from_utf8;
 
 // Numerators and denominators.
-const NUMBERS: [(i32, i32); 22] = [
+const NUMBERS: [(i32, i32); 25] = [
     (0, 1),
     (1, 1),
     (-1, 1),
@@ -33,6 +33,9 @@ const NUMBERS: [(i32, i32); 22] = [
     (-1, 2_147_483_646),
     (2_147_483_647, 2_147_483_646),
     (-2_147_483_646, 2_147_483_647),
+    (65_536, 1),
+    (1, 32_768),
+    (-32_768, 1),
 ];
 
 // A whole number of any size, from thirds that can be taken.
