@@ -7,3 +7,4 @@ pub mod Reading
 pub mod Steps
 pub mod Writing
 pub mod Typed
+pub mod Rows

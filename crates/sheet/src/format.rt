@@ -1,6 +1,5 @@
 // The layout of a sheet: its marks, its counts, where each field stands, and how large a number may be.
 ghost use Rattle.std.specs.Prelude.{◌≡◌};
-ghost use Rattle.std.specs.Str.{bytes_eq};
 ghost use Rattle.sheet.specs.Checks.{judged};
 ghost use Rattle.sheet.specs.Format.{letters, mark_of};
 ghost use Rattle.sheet.specs.Reading.{count_checks};

@@ -1,39 +1,45 @@
 // The lines and forms of a sheet that was read, one by one.
-ghost use Rattle.std.specs.Prelude.{◌≡◌, ◌+◌, ◌*◌, ◌<◌, [], ℤ, length, IfSome};
+ghost use Rattle.std.specs.Prelude.{◌≡◌, ◌+◌, ◌≤◌, length, take, cond, nat_lt, IfSome, Some, None};
 ghost use Rattle.std.specs.Option.{option_map};
-ghost use Rattle.std.specs.Slice.Iter.{chunks_exact_rest, chunks_exact_size, chunks_exact_remainder, chunks_exact_steps};
-ghost use Rattle.std.specs.Iterator.Runs.{EveryRun, IsChunksExactRun};
-ghost use Rattle.sheet.specs.Reading.{line_of, form_of};
+ghost use Rattle.sheet.specs.Blocks.{count};
+ghost use Rattle.sheet.specs.Reading.{row, line_of, form_of};
+ghost use Rattle.sheet.specs.Rows.{IsRowsOf};
 ghost use Rattle.sheet.specs.Typed.{says};
 
+use crate::block::Block;
 use crate::typed::Sheet;
 use std::slice::ChunksExact;
+
+/// The rows of a block, in order. Its numbers stand at the front of `numbers`.
+fn rows_of(numbers: &[i32], block: Block) -> ChunksExact<'_, i32>
+    requires { count block ≤ length numbers.now }
+    ensures { IsRowsOf (take (count block) numbers.now) block.rows block.width result }
+{
+    numbers[..block.count()].chunks_exact(block.width)
+}
+
+/// Row `i` of a block, counted from 0. Its numbers stand at the front of `numbers`.
+fn row_of(numbers: &[i32], block: Block, i: usize) -> Option<&[i32]>
+    requires { count block ≤ length numbers.now }
+    ensures value { option_map (λ s. s.now) result ≡ cond (nat_lt i block.rows) (Some (row block.width i (take (count block) numbers.now))) None }
+    ensures len { IfSome result (λ s. length s.now ≡ block.width) }
+{
+    rows_of(numbers, block).nth(i)
+}
 
 impl Sheet {
     /// The lines, in order: each is its coefficients and then its right side.
     pub fn lines(&self) -> ChunksExact<'_, i32>
-        ensures rest { chunks_exact_rest result ≡ (says self.now).lines }
-        ensures size { chunks_exact_size result ≡ (says self.now).counts.unknowns + 1 }
-        ensures some { 0 < chunks_exact_size result }
-        ensures count { length (chunks_exact_rest result) ≡ (says self.now).counts.lines * chunks_exact_size result }
-        ensures remainder { chunks_exact_remainder result ≡ [] }
-        ensures runs { EveryRun (chunks_exact_steps {A = ℤ}) (λ p. 0 < chunks_exact_size p.from → IsChunksExactRun p (chunks_exact_size p.from) (chunks_exact_rest p.from)) }
+        ensures { IsRowsOf (says self.now).lines (says self.now).counts.lines ((says self.now).counts.unknowns + 1) result }
     {
-        let lines = self.shape.lines();
-        self.lines[0..lines.count()].chunks_exact(lines.width)
+        rows_of(&self.lines, self.shape.lines())
     }
 
     /// The forms, in order: each is its coefficients.
     pub fn forms(&self) -> ChunksExact<'_, i32>
-        ensures rest { chunks_exact_rest result ≡ (says self.now).forms }
-        ensures size { chunks_exact_size result ≡ (says self.now).counts.unknowns }
-        ensures some { 0 < chunks_exact_size result }
-        ensures count { length (chunks_exact_rest result) ≡ (says self.now).counts.forms * chunks_exact_size result }
-        ensures remainder { chunks_exact_remainder result ≡ [] }
-        ensures runs { EveryRun (chunks_exact_steps {A = ℤ}) (λ p. 0 < chunks_exact_size p.from → IsChunksExactRun p (chunks_exact_size p.from) (chunks_exact_rest p.from)) }
+        ensures { IsRowsOf (says self.now).forms (says self.now).counts.forms (says self.now).counts.unknowns result }
     {
-        let forms = self.shape.forms();
-        self.forms[0..forms.count()].chunks_exact(forms.width)
+        rows_of(&self.forms, self.shape.forms())
     }
 
     /// Line `i`, counted from 0: its coefficients and then its right side.
@@ -41,7 +47,7 @@ impl Sheet {
         ensures value { option_map (λ s. s.now) result ≡ line_of (says self.now) i }
         ensures len { IfSome result (λ s. length s.now ≡ (says self.now).counts.unknowns + 1) }
     {
-        self.lines().nth(i)
+        row_of(&self.lines, self.shape.lines(), i)
     }
 
     /// Form `i`, counted from 0: its coefficients.
@@ -49,6 +55,6 @@ impl Sheet {
         ensures value { option_map (λ s. s.now) result ≡ form_of (says self.now) i }
         ensures len { IfSome result (λ s. length s.now ≡ (says self.now).counts.unknowns) }
     {
-        self.forms().nth(i)
+        row_of(&self.forms, self.shape.forms(), i)
     }
 }

@@ -1,6 +1,0 @@
-use Rattle.std.proofs.Common.{◌∙◌, rules}
-use Rattle.sheet.proofs.Blocks.{no_remainder}
-use Rattle.sheet.proofs.typed.Sheet.forms.Goals as goal
-
-pub returns-clause-remainder : goal.returns-clause-remainder
-returns-clause-remainder c = c.chunks_exact.ensures.remainder ∙ no_remainder _ c.forms-forms.result.rows c.forms-forms.result.width (search rules)
