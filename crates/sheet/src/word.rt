@@ -20,58 +20,44 @@ pub(crate) fn number(bytes: &[u8], at: usize) -> i32
     i32::from_le_bytes([bytes[at], bytes[at + 1], bytes[at + 2], bytes[at + 3]])
 }
 
-/// A number that is written as bytes, always as many.
-pub(crate) trait Word: Copy {
-    /// How many bytes it has.
-    const BYTES: usize;
-
-    ghost BYTES: { ℕ };
-
+/// A number that is written as `N` bytes.
+pub(crate) trait Word<const N: usize>: Copy {
     ghost bytes_of: { Self → List ℕ };
 
-    /// Writes it over `into`.
-    fn put(self, into: &mut [u8])
-        requires { length into.old ≡ BYTES }
-        ensures { into.new ≡ bytes_of self };
+    /// Its bytes, low byte first.
+    fn to_bytes(self) -> [u8; N]
+        ensures { result ≡ bytes_of self };
 
-    ghost sized: { (x : Self) → length (bytes_of x) ≡ BYTES };
+    ghost sized: { (x : Self) → length (bytes_of x) ≡ N };
 }
 
-impl Word for u16 {
-    const BYTES: usize = 2;
-
-    ghost BYTES = { 2 };
-
+impl Word<2> for u16 {
     ghost bytes_of = { field_bytes };
 
     ghost sized = { λ _. refl };
 
-    fn put(self, into: &mut [u8]) {
-        into.copy_from_slice(&self.to_le_bytes());
+    fn to_bytes(self) -> [u8; 2] {
+        self.to_le_bytes()
     }
 }
 
-impl Word for i32 {
-    const BYTES: usize = 4;
-
-    ghost BYTES = { 4 };
-
+impl Word<4> for i32 {
     ghost bytes_of = { number_bytes };
 
     ghost sized = { λ _. refl };
 
-    fn put(self, into: &mut [u8]) {
-        into.copy_from_slice(&self.to_le_bytes());
+    fn to_bytes(self) -> [u8; 4] {
+        self.to_le_bytes()
     }
 }
 
 /// Writes words over `memory`, one after another, from the byte `at` on.
-pub(crate) fn put_words<W: Word>(memory: &mut [u8], at: usize, words: &[W])
-    requires { at + W.BYTES * length words.now ≤ length memory.old }
+pub(crate) fn put_words<const N: usize, W: Word<N>>(memory: &mut [u8], at: usize, words: &[W])
+    requires { at + N * length words.now ≤ length memory.old }
     ensures { memory.new ≡ over at (flat_map W.bytes_of words.now) memory.old }
 {
     for (k, word) in words.iter().enumerate() {
-        let byte = at + W::BYTES * k;
-        word.put(&mut memory[byte..byte + W::BYTES]);
+        let byte = at + N * k;
+        memory[byte..byte + N].copy_from_slice(&word.to_bytes());
     }
 }
