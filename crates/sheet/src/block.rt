@@ -1,5 +1,5 @@
 // Rows of numbers in a sheet, and which range each number has to lie in.
-ghost use Rattle.std.specs.Prelude.{◌≡◌, ◌+◌, ◌*◌, ◌≤◌, length, OnOk};
+ghost use Rattle.std.specs.Prelude.{◌≡◌, ◌+◌, ◌*◌, ◌%◌, ◌<◌, ◌≤◌, length, OnOk};
 ghost use Rattle.sheet.specs.Checks.{judged};
 ghost use Rattle.sheet.specs.Format.{most_length};
 ghost use Rattle.sheet.specs.Numbers.{in_range};
@@ -24,6 +24,7 @@ pub(crate) struct Block {
 }
 
 impl Block {
+    ghost use Rattle.sheet.specs.declared.refusal.Refusal.TheVariants.{Number};
     ghost use Rattle.sheet.specs.Blocks.{count, end_of, numbers_of, checks_of};
 
     /// How many numbers it has.
@@ -52,18 +53,25 @@ impl Block {
         x.unsigned_abs() <= limit
     }
 
+    /// The refusal of its number `place`, counted from 0.
+    fn refusal(self, place: usize) -> Refusal
+        requires { place < count self }
+        ensures { result ≡ Number (place % self.width + 1) (self.start + 4 * place) }
+    {
+        Refusal::Number {
+            position: place % self.width + 1,
+            byte: self.start + 4 * place,
+        }
+    }
+
     /// Whether each of its numbers is in range, or the place of the first that is not.
     pub(crate) fn check(self, numbers: &[i32]) -> Result<(), Refusal>
         requires { length numbers.now ≡ count self }
         ensures { result ≡ judged (checks_of self numbers.now) }
     {
         for (k, x) in numbers.iter().enumerate() {
-            let column = k % self.width;
-            if !self.takes(*x, column) {
-                return Err(Refusal::Number {
-                    position: column + 1,
-                    byte: self.start + 4 * k,
-                });
+            if !self.takes(*x, k % self.width) {
+                return Err(self.refusal(k));
             }
         }
         Ok(())
@@ -81,13 +89,9 @@ impl Block {
         'rows: for row in 0..self.rows {
             for column in 0..self.width {
                 let place = row * self.width + column;
-                let byte = self.start + 4 * place;
-                let x = number(bytes, byte);
+                let x = number(bytes, self.start + 4 * place);
                 if !self.takes(x, column) {
-                    verdict = Err(Refusal::Number {
-                        position: column + 1,
-                        byte,
-                    });
+                    verdict = Err(self.refusal(place));
                     break 'rows;
                 }
                 into[place] = x;
@@ -103,8 +107,7 @@ impl Block {
         ensures { BlockRead result (checks_of self (numbers_of bytes.now self)) (count self) (numbers_of bytes.now self) }
     {
         let mut numbers = [0; N];
-        let front = &mut numbers[..];
-        self.read_into(bytes, &mut front[0..self.count()])?;
+        self.read_into(bytes, &mut numbers[..self.count()])?;
         Ok(numbers)
     }
 }

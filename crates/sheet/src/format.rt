@@ -29,8 +29,10 @@ pub const FORMS_START_FIELD: usize = 12;
 
 pub const TOTAL_FIELD: usize = 14;
 
+pub const HEADER_LENGTH: usize = 16;
+
 // The byte at which the first line begins, just past the header.
-pub const LINES_START: usize = 16;
+pub const LINES_START: usize = HEADER_LENGTH;
 
 /// The kind of number that a sheet is to be counted in.
 #[derive(Clone, Copy, PartialEq, Eq, Debug)]

@@ -7,8 +7,8 @@ ghost use Rattle.sheet.specs.Typed.{says, content_read};
 ghost use Rattle.sheet.specs.Writing.{WritesAs};
 
 use crate::format::{
-    Counts, FORMS_FIELD, FORMS_START_FIELD, LINES_FIELD, LINES_START, LINES_START_FIELD, Mark,
-    TOTAL_FIELD, UNKNOWNS_FIELD,
+    Counts, FORMS_FIELD, FORMS_START_FIELD, HEADER_LENGTH, LINES_FIELD, LINES_START,
+    LINES_START_FIELD, Mark, TOTAL_FIELD, UNKNOWNS_FIELD,
 };
 use crate::refusal::Refusal;
 use crate::shape::Shape;
@@ -16,7 +16,7 @@ use crate::typed::Sheet;
 use crate::word::field;
 
 /// The counts that a header gives.
-fn read_counts(header: &[u8; LINES_START]) -> Counts
+fn read_counts(header: &[u8; HEADER_LENGTH]) -> Counts
     ensures { result ≡ counts_of header.now }
 {
     Counts {
@@ -27,7 +27,7 @@ fn read_counts(header: &[u8; LINES_START]) -> Counts
 }
 
 /// Whether the offsets and the total are what the counts make them, and the sheet has `size` bytes.
-fn check_layout(header: &[u8; LINES_START], shape: Shape, size: usize) -> Result<(), Refusal>
+fn check_layout(header: &[u8; HEADER_LENGTH], shape: Shape, size: usize) -> Result<(), Refusal>
     ensures { result ≡ judged (layout_checks header.now shape.counts size) }
 {
     if field(header, LINES_START_FIELD) != LINES_START {
@@ -58,12 +58,12 @@ struct Header {
 fn read_header(bytes: &[u8]) -> Result<Header, Refusal>
     ensures { MatchResult result (λ h. HeaderOf bytes.now h.mark h.shape.counts) (λ e. judged (header_checks bytes.now) ≡ Err e) }
 {
-    let Some(header) = bytes.first_chunk::<LINES_START>() else {
+    let Some(header) = bytes.first_chunk::<HEADER_LENGTH>() else {
         return Err(Refusal::Short {
             length: bytes.len(),
         });
     };
-    let Some(mark) = Mark::of(&header[0..UNKNOWNS_FIELD]) else {
+    let Some(mark) = Mark::of(&header[..UNKNOWNS_FIELD]) else {
         return Err(Refusal::NoMark);
     };
     let shape = Shape::try_from(read_counts(header))?;

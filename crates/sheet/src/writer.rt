@@ -16,7 +16,7 @@ fn put_header(memory: &mut [u8], mark: Mark, shape: Shape)
     requires { lines_start ≤ length memory.old }
     ensures { memory.new ≡ over 0 (header_bytes mark shape.counts) memory.old }
 {
-    memory[0..UNKNOWNS_FIELD].copy_from_slice(mark.letters());
+    memory[..UNKNOWNS_FIELD].copy_from_slice(mark.letters());
     let counts = shape.counts;
     let fields = [
         counts.unknowns as u16,

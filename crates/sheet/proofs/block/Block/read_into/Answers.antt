@@ -1,7 +1,5 @@
 use Rattle.std.proofs.Common.{◌≡◌, ◌+◌, ◌*◌, Err, sym, ap, ◌∙◌, arith, w32, SFits, rules, below_more}
-use Rattle.std.proofs.lemmas.Nat.{mod-mul-add}
 use Rattle.std.proofs.lemmas.Int.{to_z-of_z}
-use Rattle.sheet.specs.declared.refusal.Refusal.TheVariants.{Number}
 use Rattle.sheet.proofs.Blocks.{inside, fine_all, fine_stops, in_column, copied_more, copied_all}
 use Rattle.sheet.proofs.block.Block.read_into.Goals as goal
 
@@ -28,8 +26,4 @@ returns-then-not-takes c =
     let h = inside c.rows.row c.args.self.width c.loop-column.column c.args.self.rows c.rows-test.true c.loop-column-test.true in
     let here = in_column c.args.self.unknowns c.args.self.width c.rows.row c.loop-column.column _ _ _ c.loop-column-test.true f c.number-x.ensures c.takes.ensures ∙ c.if-not-takes.true in
     let at = c.rows.row * c.args.self.width + c.loop-column.column in
-    record {
-      verdict = sym (fine_stops c.args.self.unknowns c.args.self.width c.args.self.start c.args.bytes.now (c.args.self.rows * c.args.self.width) at (omega arith) c.loop-column.invariant.1 here
-          ∙ ap (λ j. Err (Number (j + 1) (c.args.self.start + 4 * at))) (mod-mul-add c.rows.row c.args.self.width c.loop-column.column c.loop-column-test.true));
-      read = tt;
-    }
+    record { verdict = ap Err c.refusal.ensures ∙ sym (fine_stops _ _ _ _ (c.args.self.rows * c.args.self.width) at (omega arith) c.loop-column.invariant.1 here); read = tt }
