@@ -1,11 +1,13 @@
 // The layout of a sheet: its marks, its counts, where each field stands, and how large a number may be.
-ghost use Rattle.std.specs.Prelude.{◌≡◌};
+ghost use Rattle.std.specs.Prelude.{◌≡◌, Some};
 ghost use Rattle.sheet.specs.Checks.{judged};
 ghost use Rattle.sheet.specs.Format.{letters, mark_of};
 ghost use Rattle.sheet.specs.Reading.{count_checks};
 
 use crate::refusal::Refusal;
 pub use limits::{COEFFICIENT_LIMIT, FRAC, MOST_UNKNOWNS, REST, RIGHT_SIDE_LIMIT};
+use std::fmt;
+use std::str::from_utf8;
 
 // The most lines and forms that a sheet may have, and with them the most numbers.
 pub const MOST_LINES: usize = 40;
@@ -60,6 +62,17 @@ impl Mark {
             Some(FRAC) => Some(Mark::Frac),
             Some(REST) => Some(Mark::Rest),
             _ => None,
+        }
+    }
+}
+
+impl fmt::Display for Mark {
+    ghost output = { λ m. Some (letters m) };
+
+    fn fmt<W: fmt::Write>(&self, f: &mut fmt::Formatter<W>) -> fmt::Result {
+        match from_utf8(self.letters()) {
+            Ok(letters) => f.write_str(letters),
+            Err(_) => unreachable(),
         }
     }
 }
