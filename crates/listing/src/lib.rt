@@ -5,18 +5,16 @@
 ghost use Rattle.std.specs.Prelude.{◌≡◌, ◌+◌, ◌<◌, ◌≤◌, ◌^◌, length, take, slice_get, IfOk, Some, string_bytes};
 ghost use Rattle.std.specs.Fmt.{WritesOnOk};
 ghost use Rattle.std.specs.Slice.Iter.{chunks_exact_rest, chunks_exact_size};
-ghost use Rattle.sheet.specs.Format.{letters};
 ghost use Rattle.sheet.specs.Typed.{says};
 ghost use Rattle.listing.specs.Listing.{first_sign, next_sign, term_text, sum_text, row_text, rows_text, header_text, sheet_text, refusal_text, listing};
 
-use sheet::format::{Counts, Mark};
+use sheet::format::Counts;
 use sheet::reader::read;
 use sheet::refusal::Refusal;
 use sheet::typed::Sheet;
 use std::alloc::{AllocError, Global};
 use std::fmt;
 use std::slice::ChunksExact;
-use std::str::from_utf8;
 
 /// What stands before the first term of a sum.
 fn leading_sign(coefficient: i32) -> &'static str
@@ -146,16 +144,6 @@ fn write_rows<W: fmt::Write>(
     Ok(())
 }
 
-/// The letters of a mark, as text.
-fn mark_text(mark: Mark) -> &'static str
-    ensures { result.now ≡ letters mark }
-{
-    match from_utf8(mark.letters()) {
-        Ok(text) => text,
-        Err(_) => unreachable(),
-    }
-}
-
 /// The first line of a listing: the mark and the counts.
 #[derive(Clone, Copy)]
 struct Header<'a>(&'a Sheet);
@@ -164,7 +152,7 @@ impl fmt::Display for Header<'_> {
     ghost output = { λ h. Some (header_text (says h.0.now)) };
 
     fn fmt<W: fmt::Write>(&self, f: &mut fmt::Formatter<W>) -> fmt::Result {
-        let mark = mark_text(self.0.mark());
+        let mark = self.0.mark();
         let Counts {
             unknowns,
             lines,
