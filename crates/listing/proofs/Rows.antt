@@ -1,5 +1,5 @@
 -- The rows of a sheet, as they are written one after another. Assumes nothing.
-use Rattle.std.proofs.Common.{◌≡◌, ℕ, zero, suc, ◌+◌, ◌-◌, ◌*◌, ◌/◌, ◌<◌, ◌≤◌, List, [], ◌∷◌, ◌++◌, length, get_or, take, drop, ℤ, pos, Bor, Some, None, codes, refl, sym, ap, ◌∙◌, arith, length-append, length-drop}
+use Rattle.std.proofs.Common.{◌≡◌, ℕ, zero, suc, ◌+◌, ◌-◌, ◌*◌, ◌/◌, ◌<◌, ◌≤◌, List, [], ◌∷◌, ◌++◌, length, get_or, take, drop, ℤ, pos, Bor, Some, None, codes, refl, sym, ap, subst, ◌∙◌, arith, length-append, length-drop}
 use Rattle.std.proofs.Math.Nat.{mul-div_cancel, mul-le-mul_right}
 use Rattle.std.proofs.Math.Seq.{drop-drop, take-length, take-append_seam, drop-append_seam}
 use Rattle.std.proofs.lemmas.List.{map-id, flat_map_more, length-take-le}
@@ -9,7 +9,9 @@ use Rattle.std.proofs.lemmas.Option.{slice_get-get_or, slice_get_past}
 use Rattle.std.specs.List.{range_with_len, flat_map, slice_get}
 use Rattle.std.specs.Slice.Iter.{chunks_exact_rest, chunks_exact_size, chunks_exact_steps}
 use Rattle.std.specs.declared.slice.ChunksExact.{ChunksExact}
+use Rattle.sheet.specs.declared.format.Counts.{Counts}
 use Rattle.sheet.specs.Reading.{Content, row}
+use Rattle.sheet.specs.Rows.{IsRowsOf}
 use Rattle.listing.specs.Listing.{row_text, numbered_row, rows_text, line_text, form_text, lines_text, forms_text}
 
 -- the i-th of the rows of w numbers that zs has comes next from s
@@ -82,8 +84,18 @@ module _ (h w : ℕ) (zs : List ℤ) (wide : 0 < w) (long : length zs ≡ h * w)
       ap (first_rows name unknowns w zs) count
       ∙ flat_map_same (numbered_row name unknowns w zs) f 0 h (λ k l. each k (length-row k (omega arith)))
 
-pub rows_text-lines : (s : Content) → length s.lines ≡ s.counts.lines * (s.counts.unknowns + 1) → rows_text (codes "line") s.counts.unknowns (s.counts.unknowns + 1) s.lines ≡ lines_text s
-rows_text-lines s long = rows_text-all s.counts.lines (s.counts.unknowns + 1) s.lines (omega arith) long (codes "line") s.counts.unknowns (line_text s) (λ k. row_text-line s k (row (s.counts.unknowns + 1) k s.lines) refl)
+-- the same of what a sheet gives as its lines, and as its forms
+module _ (s : Content) (c : Counts) (is : c ≡ s.counts) (rows : ChunksExact ℤ) where
+  pub lines_written : IsRowsOf s.lines s.counts.lines (s.counts.unknowns + 1) rows → rows_text (codes "line") c.unknowns (chunks_exact_size rows) (chunks_exact_rest rows) ≡ lines_text s
+  lines_written are =
+      let n = s.counts.unknowns in
+      let long : length s.lines ≡ s.counts.lines * (n + 1) = (λ j. length (sym are.rest j)) ∙ are.count ∙ ap (λ w. s.counts.lines * w) are.size in
+      (λ j. rows_text (codes "line") (is j).unknowns (are.size j) (are.rest j))
+      ∙ rows_text-all s.counts.lines (n + 1) s.lines (omega arith) long (codes "line") n (line_text s) (λ k. row_text-line s k (row (n + 1) k s.lines) refl)
 
-pub rows_text-forms : (s : Content) → 0 < s.counts.unknowns → length s.forms ≡ s.counts.forms * s.counts.unknowns → rows_text (codes "form") s.counts.unknowns s.counts.unknowns s.forms ≡ forms_text s
-rows_text-forms s some long = rows_text-all s.counts.forms s.counts.unknowns s.forms some long (codes "form") s.counts.unknowns (form_text s) (λ k. row_text-form s k (row s.counts.unknowns k s.forms) refl)
+  pub forms_written : IsRowsOf s.forms s.counts.forms s.counts.unknowns rows → rows_text (codes "form") c.unknowns (chunks_exact_size rows) (chunks_exact_rest rows) ≡ forms_text s
+  forms_written are =
+      let n = s.counts.unknowns in
+      let long : length s.forms ≡ s.counts.forms * n = (λ j. length (sym are.rest j)) ∙ are.count ∙ ap (λ w. s.counts.forms * w) are.size in
+      (λ j. rows_text (codes "form") (is j).unknowns (are.size j) (are.rest j))
+      ∙ rows_text-all s.counts.forms n s.forms (subst (λ w. 0 < w) are.size are.some) long (codes "form") n (form_text s) (λ k. row_text-form s k (row n k s.forms) refl)

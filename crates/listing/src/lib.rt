@@ -6,7 +6,7 @@ ghost use Rattle.std.specs.Prelude.{◌≡◌, ◌+◌, ◌<◌, ◌≤◌, ◌^
 ghost use Rattle.std.specs.Fmt.{WritesOnOk};
 ghost use Rattle.std.specs.Slice.Iter.{chunks_exact_rest, chunks_exact_size};
 ghost use Rattle.sheet.specs.Typed.{says};
-ghost use Rattle.listing.specs.Listing.{first_sign, next_sign, term_text, sum_text, row_text, rows_text, header_text, sheet_text, refusal_text, listing};
+ghost use Rattle.listing.specs.Listing.{first_sign, next_sign, term_text, sum_text, row_text, rows_text, header_text, lines_text, forms_text, sheet_text, refusal_text, listing};
 
 use sheet::format::Counts;
 use sheet::reader::read;
@@ -162,6 +162,32 @@ impl fmt::Display for Header<'_> {
     }
 }
 
+/// The lines of a sheet, each as an equation.
+#[derive(Clone, Copy)]
+struct Lines<'a>(&'a Sheet);
+
+impl fmt::Display for Lines<'_> {
+    ghost output = { λ l. Some (lines_text (says l.0.now)) };
+
+    fn fmt<W: fmt::Write>(&self, f: &mut fmt::Formatter<W>) -> fmt::Result {
+        let sheet = self.0;
+        write_rows(f, "line", sheet.counts().unknowns, sheet.lines())
+    }
+}
+
+/// The forms of a sheet, each as a sum.
+#[derive(Clone, Copy)]
+struct Forms<'a>(&'a Sheet);
+
+impl fmt::Display for Forms<'_> {
+    ghost output = { λ f. Some (forms_text (says f.0.now)) };
+
+    fn fmt<W: fmt::Write>(&self, f: &mut fmt::Formatter<W>) -> fmt::Result {
+        let sheet = self.0;
+        write_rows(f, "form", sheet.counts().unknowns, sheet.forms())
+    }
+}
+
 /// The listing of a sheet.
 #[derive(Clone, Copy)]
 struct Listing<'a>(&'a Sheet);
@@ -171,10 +197,9 @@ impl fmt::Display for Listing<'_> {
 
     fn fmt<W: fmt::Write>(&self, f: &mut fmt::Formatter<W>) -> fmt::Result {
         let sheet = self.0;
-        let unknowns = sheet.counts().unknowns;
         write!(f, "{}", Header(sheet))?;
-        write_rows(f, "line", unknowns, sheet.lines())?;
-        write_rows(f, "form", unknowns, sheet.forms())
+        write!(f, "{}", Lines(sheet))?;
+        write!(f, "{}", Forms(sheet))
     }
 }
 
