@@ -37,6 +37,20 @@ struct Term {
     coefficient: i32,
 }
 
+impl Term {
+    /// The term of coefficient `k`, counted from 0.
+    fn new(k: usize, coefficient: i32) -> Term
+        requires { k + 1 < 2 ^ 64 }
+        ensures unknown { result.unknown ≡ k + 1 }
+        ensures coefficient { result.coefficient ≡ coefficient }
+    {
+        Term {
+            unknown: k + 1,
+            coefficient,
+        }
+    }
+}
+
 impl fmt::Display for Term {
     ghost output = { λ t. Some (term_text (t.unknown, t.coefficient)) };
 
@@ -61,18 +75,20 @@ impl fmt::Display for Sum<'_> {
         let Some((k, &coefficient)) = coefficients.find(|&(_, &c)| c != 0) else {
             return write!(f, "0");
         };
-        let term = Term {
-            unknown: k + 1,
-            coefficient,
-        };
-        write!(f, "{}{term}", leading_sign(coefficient))?;
+        write!(
+            f,
+            "{}{}",
+            leading_sign(coefficient),
+            Term::new(k, coefficient)
+        )?;
         for (k, &coefficient) in coefficients {
             if coefficient != 0 {
-                let term = Term {
-                    unknown: k + 1,
-                    coefficient,
-                };
-                write!(f, "{}{term}", joining_sign(coefficient))?;
+                write!(
+                    f,
+                    "{}{}",
+                    joining_sign(coefficient),
+                    Term::new(k, coefficient)
+                )?;
             }
         }
         Ok(())
