@@ -7,6 +7,7 @@ use Rattle.integers.specs.Divisors.{gcd, Prime}
 use Rattle.integers.proofs.Primes.{prime_coprime}
 use Rattle.integers.proofs.Equations.{parts, differences, naturals, adding}
 use Rattle.algebra.specs.Remainder.{Rem, zero_r, whole_r}
+use Rattle.remainders.specs.Moduli.{modulus}
 use Rattle.algebra.proofs.RemainderLaws.{Of, Of_unique, Rem_path, mod_of, self_of}
 
 -- numbers with the same remainder differ by a multiple of m, and the other way round
@@ -55,6 +56,10 @@ rest_of m a hf lf high low l h j = same m (a * f) (high % low) l (_, left_over m
 -- remainders are the same exactly when their numbers are
 pub told_apart : {p : ℕ} (a b : Rem p) → Decides (a.value == b.value) (a ≡ b)
 told_apart {p} a b = Decides-like (a.value == b.value) (Rem_path a b) (λ e. ap (λ (r : Rem p). r.value) e) (Decides-eqb a.value b.value)
+
+-- .. for the tactics, at the modulus of REST
+pub same_value : (a b : Rem modulus) → a.value ≡ b.value → a ≡ b
+same_value a b e = Rem_path a b e
 
 -- the remainder of a whole number, whichever proof there is that the modulus is above 1
 pub whole_same : (p : ℕ) (h j : 1 < p) (z w : ℤ) → z ≡ w → (whole_r p h z).value ≡ (whole_r p j w).value

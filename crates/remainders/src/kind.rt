@@ -57,18 +57,21 @@ impl Kind for Remainder {
 
     ghost one_form = { λ a b e. e };
 
+    #[tactic(auto, using(crate::proofs::ByModulus::same_value))]
     fn sum(self, other: Remainder) -> Result<Remainder, Reason> {
         Ok(Remainder {
             value: Modulus::REST.sum(self.value, other.value),
         })
     }
 
+    #[tactic(auto, using(crate::proofs::ByModulus::same_value))]
     fn difference(self, other: Remainder) -> Result<Remainder, Reason> {
         Ok(Remainder {
             value: Modulus::REST.difference(self.value, other.value),
         })
     }
 
+    #[tactic(auto, using(crate::proofs::ByModulus::same_value))]
     fn product(self, other: Remainder) -> Result<Remainder, Reason> {
         Ok(Remainder {
             value: Modulus::REST.product(self.value, other.value),
@@ -86,6 +89,7 @@ impl Kind for Remainder {
         self.value == 0
     }
 
+    #[tactic(auto, using(crate::proofs::ByModulus::same_value))]
     fn alike(self, other: Remainder) -> bool {
         self == other
     }
