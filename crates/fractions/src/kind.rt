@@ -14,7 +14,7 @@ use kinds::refusal::{Reason, Refusal};
 use kinds::whole::Whole;
 use limits::FRAC;
 
-/// z/1
+/// The whole number over 1.
 impl From<Whole> for Fraction {
     ghost from_gives = { λ w r. exact_q r ≡ whole_q w.number };
 
@@ -82,6 +82,7 @@ impl Kind for Fraction {
         self.numerator == 0
     }
 
+    #[tactic(auto, using(crate::proofs::Fitting::parts_tell))]
     fn alike(self, other: Fraction) -> bool {
         self == other
     }

@@ -1,4 +1,4 @@
-// FRAC: fractions in lowest terms, those that are stored and those that are still to be judged.
+// FRAC: fractions in lowest terms, those that are stored and those that may not fit.
 
 #![tactic(auto)]
 
@@ -6,15 +6,15 @@ ghost use Rattle.std.specs.Prelude.{◌≡◌, ◌<◌, ◌≤◌, unsigned_abs}
 ghost use Rattle.integers.specs.Divisors.{gcd};
 ghost use Rattle.fractions.specs.Terms.{part_limit};
 
-pub(crate) mod divisors;
+mod divisors;
 pub mod kind;
-pub(crate) mod operations;
+mod operations;
 
 /// A fraction in lowest terms that fits: the denominator is at least 1, and equal fractions are equal structs.
 #[derive(Clone, Copy, PartialEq, Eq, Debug)]
 pub struct Fraction {
-    pub(crate) numerator: i32,
-    pub(crate) denominator: u32,
+    numerator: i32,
+    denominator: u32,
     ghost above: { 0 < denominator },
     ghost lowest: { gcd (unsigned_abs numerator) denominator ≡ 1 },
     ghost low: { unsigned_abs numerator ≤ part_limit },
@@ -41,9 +41,9 @@ impl Fraction {
 
 /// A result in lowest terms, whether it fits or not.
 #[derive(Clone, Copy)]
-pub(crate) struct Lowest {
-    pub(crate) numerator: i64,
-    pub(crate) denominator: u64,
+struct Lowest {
+    numerator: i64,
+    denominator: u64,
     ghost above: { 0 < denominator },
     ghost lowest: { gcd (unsigned_abs numerator) denominator ≡ 1 },
 }

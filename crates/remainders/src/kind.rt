@@ -13,7 +13,7 @@ use kinds::refusal::{Reason, Refusal};
 use kinds::whole::Whole;
 use limits::REST;
 
-/// Its remainder, also of a negative number.
+/// The remainder of the whole number, also of a negative one.
 impl From<Whole> for Remainder {
     ghost from_gives = { λ w r. r ≡ taken_r w.number };
 

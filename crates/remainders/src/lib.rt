@@ -9,7 +9,7 @@ use crate::modulus::Modulus;
 use std::marker::Model;
 
 pub mod kind;
-pub(crate) mod modulus;
+mod modulus;
 
 /// A remainder by the modulus of REST.
 #[derive(Clone, Copy, PartialEq, Eq, Debug)]
