@@ -2,8 +2,9 @@
 use Rattle.std.proofs.Common.{◌≡◌, ◌≤◌, ◌==◌, ◌&&◌, int_eq, Decides, Bool, cond, leb, nat_abs, Some, None, Option, ap}
 use Rattle.std.proofs.lemmas.Bool.{and_from, le-leb}
 use Rattle.std.proofs.lemmas.Bool.Decides.{Decides-and, Decides-int_eq, Decides-eqb}
-use Rattle.algebra.specs.Fraction.{Q}
-use Rattle.algebra.proofs.FractionLaws.{Q_path}
+use Rattle.algebra.specs.Fraction.{Q, zero_q}
+use Rattle.std.proofs.Common.{nat_eq, of_z, w32, rules}
+use Rattle.algebra.proofs.FractionLaws.{Q_path, zero_num}
 use Rattle.fractions.specs.Terms.{part_limit}
 use Rattle.fractions.specs.Fractions.{exact_q, misfit_q}
 use Rattle.fractions.specs.FracValues.{same_num, same_den}
@@ -22,3 +23,6 @@ pub parts_tell : (a b : Fraction) → Decides (int_eq a.numerator b.numerator &&
 parts_tell a b =
     let d = Decides-and _ _ (Decides-int_eq a.numerator b.numerator) (Decides-eqb a.denominator b.denominator) in
     (λ t. Q_path (exact_q a) (exact_q b) (d.0 t).0 (d.0 t).1, λ e. d.1 (same_num (exact_q a) (exact_q b) e, same_den (exact_q a) (exact_q b) e))
+
+pub zero_tells : (a : Fraction) → Decides (nat_eq (of_z w32 a.numerator) 0) (exact_q a ≡ zero_q)
+zero_tells a = let b = a.low in (λ t. zero_num (exact_q a) (search rules), λ e. let z = same_num (exact_q a) zero_q e in search rules)

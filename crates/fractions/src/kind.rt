@@ -78,6 +78,7 @@ impl Kind for Fraction {
         Ok(Fraction::try_from(self.times(divisor.reciprocal()))?)
     }
 
+    #[tactic(auto, using(crate::proofs::Fitting::zero_tells))]
     fn is_zero(self) -> bool {
         self.numerator == 0
     }
