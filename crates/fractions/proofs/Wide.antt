@@ -10,6 +10,10 @@ pub size_fits : (z : ℤ) → nat_abs z < 9223372036854775808 → SFits w64 z
 size_fits (pos n) h = record { sfits = h }
 size_fits (negsuc n) h = record { sfits = omega arith }
 
+pub word_fits : (z : ℤ) → nat_abs z ≤ part_limit → SFits w32 z
+word_fits (pos n) h = record { sfits = omega arith }
+word_fits (negsuc n) h = record { sfits = omega arith }
+
 pub kept : (z : ℤ) → nat_abs z < 9223372036854775808 → to_z w64 (of_z w64 z) ≡ z
 kept z h = to_z-of_z w64 z (size_fits z h)
 

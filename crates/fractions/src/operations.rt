@@ -100,6 +100,7 @@ impl Fraction {
     }
 
     /// t/h over (b/g)(d/h), where t = a (d/g) + c (b/g), and h is common to t and g
+    #[tactic(auto, using(integers::proofs::GcdLaws::gcd_pos))]
     fn plus_sharing(self, other: Fraction, common: u32) -> Lowest
         requires { common ≡ greatest self.denominator other.denominator }
         ensures { lowest_q result ≡ plus_q (exact_q self) (exact_q other) }
