@@ -5,6 +5,7 @@ use Rattle.std.proofs.lemmas.Int.{to_z-of_z, to_z_pos, unsigned_abs-mul, ints}
 use Rattle.integers.specs.Signs.{quot}
 use Rattle.integers.proofs.Sizes.{unsigned_abs_quot}
 use Rattle.fractions.specs.Terms.{part_limit}
+use Rattle.fractions.specs.declared.Fraction.{Fraction}
 
 pub size_fits : (z : ℤ) → nat_abs z < 9223372036854775808 → SFits w64 z
 size_fits (pos n) h = record { sfits = h }
@@ -35,32 +36,40 @@ product_size a b h k = subst (λ (x : ℕ). x ≤ square) (sym (unsigned_abs-mul
 abbrev pub wide_term : ℤ → ℕ → ℤ
 wide_term a x = to_z w64 (of_z w64 (to_z w32 (of_z w32 a))) *ℤ to_z w64 x
 
-module _ (a : ℤ) (x : ℕ) (f : SFits w32 a) (h : nat_abs a ≤ part_limit) (k : x ≤ part_limit) where
-  term_is : wide_term a x ≡ a *ℤ pos x
-  term_is = ap₂ ◌*ℤ◌ (widened a f) (to_z_pos w64 x (omega arith))
+-- a numerator times a word without a sign
+module _ (p : Fraction) (x : ℕ) (k : x ≤ part_limit) where
+  term_is : wide_term p.numerator x ≡ p.numerator *ℤ pos x
+  term_is = ap₂ ◌*ℤ◌ (widened p.numerator (word_fits p.numerator p.low)) (to_z_pos w64 x (omega arith))
 
-  pub term_size : nat_abs (wide_term a x) ≤ square
-  term_size = subst (λ (z : ℤ). nat_abs z ≤ square) (sym term_is) (product_size a (pos x) h k)
+  term_size : nat_abs (p.numerator *ℤ pos x) ≤ square
+  term_size = product_size p.numerator (pos x) p.low k
 
-  pub term_kept : to_z w64 (of_z w64 (wide_term a x)) ≡ a *ℤ pos x
-  term_kept = kept (wide_term a x) (let s = term_size in omega arith) ∙ term_is
+  term_kept : to_z w64 (of_z w64 (wide_term p.numerator x)) ≡ p.numerator *ℤ pos x
+  term_kept = ap (λ (z : ℤ). to_z w64 (of_z w64 z)) term_is ∙ kept (p.numerator *ℤ pos x) (let s = term_size in omega arith)
 
-module _ (a : ℤ) (x : ℕ) (f : SFits w32 a) (h : nat_abs a ≤ part_limit) (k : x ≤ part_limit) (b : ℤ) (y : ℕ) (g : SFits w32 b) (i : nat_abs b ≤ part_limit) (j : y ≤ part_limit) where
-  both_is : to_z w64 (of_z w64 (wide_term a x)) +ℤ to_z w64 (of_z w64 (wide_term b y)) ≡ a *ℤ pos x +ℤ b *ℤ pos y
-  both_is = ap₂ ◌+ℤ◌ (term_kept a x f h k) (term_kept b y g i j)
+-- the sum of two of these
+module _ (p : Fraction) (x : ℕ) (k : x ≤ part_limit) (q : Fraction) (y : ℕ) (j : y ≤ part_limit) where
+  abbrev both : ℤ
+  both = to_z w64 (of_z w64 (wide_term p.numerator x)) +ℤ to_z w64 (of_z w64 (wide_term q.numerator y))
 
-  pub both_size : nat_abs (a *ℤ pos x +ℤ b *ℤ pos y) < 9223372036854775808
+  both_is : both ≡ p.numerator *ℤ pos x +ℤ q.numerator *ℤ pos y
+  both_is = ap₂ ◌+ℤ◌ (term_kept p x k) (term_kept q y j)
+
+  both_size : nat_abs both < 9223372036854775808
   both_size =
-      let s = sum_size (a *ℤ pos x) (b *ℤ pos y) in
-      let t = product_size a (pos x) h k in
-      let u = product_size b (pos y) i j in
-      omega arith
+      let s = sum_size (p.numerator *ℤ pos x) (q.numerator *ℤ pos y) in
+      let t = term_size p x k in
+      let u = term_size q y j in
+      subst (λ (z : ℤ). nat_abs z < 9223372036854775808) (sym both_is) (omega arith)
 
-  pub sum_fits : SFits w64 (to_z w64 (of_z w64 (wide_term a x)) +ℤ to_z w64 (of_z w64 (wide_term b y)))
-  sum_fits = subst (λ (z : ℤ). SFits w64 z) (sym both_is) (size_fits (a *ℤ pos x +ℤ b *ℤ pos y) both_size)
+  pub sum_fits : SFits w64 both
+  sum_fits = size_fits both both_size
 
-  pub sum_kept : to_z w64 (of_z w64 (to_z w64 (of_z w64 (wide_term a x)) +ℤ to_z w64 (of_z w64 (wide_term b y)))) ≡ a *ℤ pos x +ℤ b *ℤ pos y
-  sum_kept = ap (λ (z : ℤ). to_z w64 (of_z w64 z)) both_is ∙ kept (a *ℤ pos x +ℤ b *ℤ pos y) both_size
+  pub sum_kept : to_z w64 (of_z w64 both) ≡ p.numerator *ℤ pos x +ℤ q.numerator *ℤ pos y
+  sum_kept = kept both both_size ∙ both_is
+
+  pub sum_small : nat_abs (to_z w64 (of_z w64 both)) < 9223372036854775808
+  sum_small = subst (λ (z : ℤ). nat_abs z < 9223372036854775808) (sym (kept both both_size)) both_size
 
 -- dividing makes no larger
 pub quot_size : (z : ℤ) (g : ℕ) → nat_abs (quot z g) ≤ nat_abs z
@@ -71,8 +80,8 @@ word_size : (z : ℤ) → SFits w32 z → nat_abs z ≤ 2147483648
 word_size (pos n) f = let s = f.sfits in omega arith
 word_size (negsuc n) f = let s = f.sfits in omega arith
 
-module _ (a : ℤ) (g : ℕ) (c : ℤ) (h : ℕ) (x y : ℤ) (fa : SFits w32 a) (fc : SFits w32 c) (fx : SFits w64 x) (fy : SFits w64 y)
-    (ex : x ≡ quot (to_z w64 (of_z w64 (to_z w32 (of_z w32 a)))) g) (ey : y ≡ quot (to_z w64 (of_z w64 (to_z w32 (of_z w32 c)))) h) where
+module _ (a : ℤ) (g : ℕ) (c : ℤ) (h : ℕ) (x y : ℤ) (fa : SFits w32 a) (fc : SFits w32 c)
+    (ex : x ≡ quot (to_z w64 (of_z w64 (to_z w32 (of_z w32 a)))) g) (ey : y ≡ quot (to_z w64 (of_z w64 (to_z w32 (of_z w32 c)))) h) (fx : SFits w64 x) (fy : SFits w64 y) where
   parts_are : to_z w64 (of_z w64 x) *ℤ to_z w64 (of_z w64 y) ≡ quot a g *ℤ quot c h
   parts_are =
       ap₂ ◌*ℤ◌ (to_z-of_z w64 x fx ∙ ex ∙ ap (λ (z : ℤ). quot z g) (widened a fa)) (to_z-of_z w64 y fy ∙ ey ∙ ap (λ (z : ℤ). quot z h) (widened c fc))
