@@ -1,9 +1,8 @@
 -- Which exact fractions fit, and when two stored ones stand for the same. Assumes nothing.
-use Rattle.std.proofs.Common.{◌≡◌, ◌≤◌, ◌==◌, ◌&&◌, int_eq, Decides, Bool, cond, leb, nat_abs, Some, None, Option, ap}
+use Rattle.std.proofs.Common.{◌≡◌, ◌≤◌, ◌==◌, ◌&&◌, int_eq, Decides, Bool, cond, leb, nat_abs, Some, None, Option, ap, nat_eq, of_z, w32, rules}
 use Rattle.std.proofs.lemmas.Bool.{and_from, le-leb}
 use Rattle.std.proofs.lemmas.Bool.Decides.{Decides-and, Decides-int_eq, Decides-eqb}
 use Rattle.algebra.specs.Fraction.{Q, zero_q}
-use Rattle.std.proofs.Common.{nat_eq, of_z, w32, rules}
 use Rattle.algebra.proofs.FractionLaws.{Q_path, zero_num}
 use Rattle.fractions.specs.Terms.{part_limit}
 use Rattle.fractions.specs.Fractions.{exact_q, misfit_q}
@@ -24,5 +23,6 @@ parts_tell a b =
     let d = Decides-and _ _ (Decides-int_eq a.numerator b.numerator) (Decides-eqb a.denominator b.denominator) in
     (λ t. Q_path (exact_q a) (exact_q b) (d.0 t).0 (d.0 t).1, λ e. d.1 (same_num (exact_q a) (exact_q b) e, same_den (exact_q a) (exact_q b) e))
 
+-- .. and zero exactly when the numerator is, as the word that it stands in tells
 pub zero_tells : (a : Fraction) → Decides (nat_eq (of_z w32 a.numerator) 0) (exact_q a ≡ zero_q)
 zero_tells a = let b = a.low in (λ t. zero_num (exact_q a) (search rules), λ e. let z = same_num (exact_q a) zero_q e in search rules)
