@@ -75,20 +75,12 @@ impl fmt::Display for Sum<'_> {
         let Some((k, &coefficient)) = coefficients.find(|&(_, &c)| c != 0) else {
             return write!(f, "0");
         };
-        write!(
-            f,
-            "{}{}",
-            leading_sign(coefficient),
-            Term::new(k, coefficient)
-        )?;
+        let term = Term::new(k, coefficient);
+        write!(f, "{}{term}", leading_sign(coefficient))?;
         for (k, &coefficient) in coefficients {
             if coefficient != 0 {
-                write!(
-                    f,
-                    "{}{}",
-                    joining_sign(coefficient),
-                    Term::new(k, coefficient)
-                )?;
+                let term = Term::new(k, coefficient);
+                write!(f, "{}{term}", joining_sign(coefficient))?;
             }
         }
         Ok(())
