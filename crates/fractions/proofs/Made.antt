@@ -1,5 +1,5 @@
 -- Fractions that the code makes: what their parts are, and that they are in lowest terms. Assumes nothing.
-use Rattle.std.proofs.Common.{◌≡◌, ℕ, suc, ◌*◌, ◌/◌, ◌%◌, ◌<◌, ◌≤◌, ◌≢◌, ℤ, pos, ◌+ℤ◌, ◌*ℤ◌, nat_abs, sym, refl, ap, ◌∙◌, subst, ap₂, arith, w32, w64, SFits, to_z, of_z}
+use Rattle.std.proofs.Common.{◌≡◌, ℕ, suc, ◌*◌, ◌/◌, ◌%◌, ◌<◌, ◌≤◌, ◌≢◌, ℤ, pos, ◌+ℤ◌, ◌*ℤ◌, nat_abs, sym, refl, ap, ◌∙◌, subst, ap₂, arith, w32, w64, SFits}
 use Rattle.std.proofs.lemmas.Int.{to_z-of_z}
 use Prim.Native.Nat as Nat
 use Rattle.integers.specs.Divisors.{gcd}
@@ -12,14 +12,7 @@ use Rattle.algebra.proofs.Reduced.{joint, shared_above, shared_lowest, shared_va
 use Rattle.fractions.specs.Terms.{part_limit}
 use Rattle.fractions.specs.Fractions.{exact_q}
 use Rattle.fractions.specs.declared.Fraction.{Fraction}
-use Rattle.fractions.proofs.Wide.{word_fits}
-
--- an integer as it stands in a word, or in two
-abbrev pub word : ℤ → ℤ
-word z = to_z w32 (of_z w32 z)
-
-abbrev pub wide : ℤ → ℤ
-wide z = to_z w64 (of_z w64 z)
+use Rattle.fractions.proofs.Wide.{word, wide, word_fits}
 
 -- a stored numerator stands in a word
 stored : (v : Fraction) → word v.numerator ≡ v.numerator

@@ -7,6 +7,13 @@ use Rattle.integers.proofs.Sizes.{unsigned_abs_quot}
 use Rattle.fractions.specs.Terms.{part_limit}
 use Rattle.fractions.specs.declared.Fraction.{Fraction}
 
+-- an integer as it stands in a word, or in two
+abbrev pub word : ℤ → ℤ
+word z = to_z w32 (of_z w32 z)
+
+abbrev pub wide : ℤ → ℤ
+wide z = to_z w64 (of_z w64 z)
+
 pub size_fits : (z : ℤ) → nat_abs z < 9223372036854775808 → SFits w64 z
 size_fits (pos n) h = record { sfits = h }
 size_fits (negsuc n) h = record { sfits = omega arith }
@@ -15,12 +22,12 @@ pub word_fits : (z : ℤ) → nat_abs z ≤ part_limit → SFits w32 z
 word_fits (pos n) h = record { sfits = omega arith }
 word_fits (negsuc n) h = record { sfits = omega arith }
 
-pub kept : (z : ℤ) → nat_abs z < 9223372036854775808 → to_z w64 (of_z w64 z) ≡ z
+pub kept : (z : ℤ) → nat_abs z < 9223372036854775808 → wide z ≡ z
 kept z h = to_z-of_z w64 z (size_fits z h)
 
 -- a word, cast to 64 bits
-pub widened : (z : ℤ) → SFits w32 z → to_z w64 (of_z w64 (to_z w32 (of_z w32 z))) ≡ z
-widened z f = ap (λ (x : ℤ). to_z w64 (of_z w64 x)) (to_z-of_z w32 z f) ∙ to_z-of_z w64 z (sfits_widen {w = w32} {w' = w64} tt f)
+pub widened : (z : ℤ) → SFits w32 z → wide (word z) ≡ z
+widened z f = ap wide (to_z-of_z w32 z f) ∙ to_z-of_z w64 z (sfits_widen {w = w32} {w' = w64} tt f)
 
 pub sum_size : (x y : ℤ) → nat_abs (x +ℤ y) ≤ nat_abs x + nat_abs y
 sum_size x y = omega (arith, ints)
@@ -34,7 +41,7 @@ product_size a b h k = subst (λ (x : ℕ). x ≤ square) (sym (unsigned_abs-mul
 
 -- a word times a word without a sign, in 64 bits
 abbrev pub wide_term : ℤ → ℕ → ℤ
-wide_term a x = to_z w64 (of_z w64 (to_z w32 (of_z w32 a))) *ℤ to_z w64 x
+wide_term a x = wide (word a) *ℤ to_z w64 x
 
 -- a numerator times a word without a sign
 module _ (p : Fraction) (x : ℕ) (k : x ≤ part_limit) where
@@ -44,13 +51,13 @@ module _ (p : Fraction) (x : ℕ) (k : x ≤ part_limit) where
   term_size : nat_abs (p.numerator *ℤ pos x) ≤ square
   term_size = product_size p.numerator (pos x) p.low k
 
-  term_kept : to_z w64 (of_z w64 (wide_term p.numerator x)) ≡ p.numerator *ℤ pos x
-  term_kept = ap (λ (z : ℤ). to_z w64 (of_z w64 z)) term_is ∙ kept (p.numerator *ℤ pos x) (let s = term_size in omega arith)
+  term_kept : wide (wide_term p.numerator x) ≡ p.numerator *ℤ pos x
+  term_kept = ap wide term_is ∙ kept (p.numerator *ℤ pos x) (let s = term_size in omega arith)
 
 -- the sum of two of these
 module _ (p : Fraction) (x : ℕ) (k : x ≤ part_limit) (q : Fraction) (y : ℕ) (j : y ≤ part_limit) where
   abbrev both : ℤ
-  both = to_z w64 (of_z w64 (wide_term p.numerator x)) +ℤ to_z w64 (of_z w64 (wide_term q.numerator y))
+  both = wide (wide_term p.numerator x) +ℤ wide (wide_term q.numerator y)
 
   both_is : both ≡ p.numerator *ℤ pos x +ℤ q.numerator *ℤ pos y
   both_is = ap₂ ◌+ℤ◌ (term_kept p x k) (term_kept q y j)
@@ -65,10 +72,10 @@ module _ (p : Fraction) (x : ℕ) (k : x ≤ part_limit) (q : Fraction) (y : ℕ
   pub sum_fits : SFits w64 both
   sum_fits = size_fits both both_size
 
-  pub sum_kept : to_z w64 (of_z w64 both) ≡ p.numerator *ℤ pos x +ℤ q.numerator *ℤ pos y
+  pub sum_kept : wide both ≡ p.numerator *ℤ pos x +ℤ q.numerator *ℤ pos y
   sum_kept = kept both both_size ∙ both_is
 
-  pub sum_small : nat_abs (to_z w64 (of_z w64 both)) < 9223372036854775808
+  pub sum_small : nat_abs (wide both) < 9223372036854775808
   sum_small = subst (λ (z : ℤ). nat_abs z < 9223372036854775808) (sym (kept both both_size)) both_size
 
 -- dividing makes no larger
@@ -81,8 +88,8 @@ word_size (pos n) f = let s = f.sfits in omega arith
 word_size (negsuc n) f = let s = f.sfits in omega arith
 
 module _ (a : ℤ) (g : ℕ) (c : ℤ) (h : ℕ) (x y : ℤ) (fa : SFits w32 a) (fc : SFits w32 c)
-    (ex : x ≡ quot (to_z w64 (of_z w64 (to_z w32 (of_z w32 a)))) g) (ey : y ≡ quot (to_z w64 (of_z w64 (to_z w32 (of_z w32 c)))) h) (fx : SFits w64 x) (fy : SFits w64 y) where
-  parts_are : to_z w64 (of_z w64 x) *ℤ to_z w64 (of_z w64 y) ≡ quot a g *ℤ quot c h
+    (ex : x ≡ quot (wide (word a)) g) (ey : y ≡ quot (wide (word c)) h) (fx : SFits w64 x) (fy : SFits w64 y) where
+  parts_are : wide x *ℤ wide y ≡ quot a g *ℤ quot c h
   parts_are =
       ap₂ ◌*ℤ◌ (to_z-of_z w64 x fx ∙ ex ∙ ap (λ (z : ℤ). quot z g) (widened a fa)) (to_z-of_z w64 y fy ∙ ey ∙ ap (λ (z : ℤ). quot z h) (widened c fc))
 
@@ -96,8 +103,8 @@ module _ (a : ℤ) (g : ℕ) (c : ℤ) (h : ℕ) (x y : ℤ) (fa : SFits w32 a) 
       let e = unsigned_abs-mul (quot a g) (quot c h) in
       omega arith
 
-  pub parts_fit : SFits w64 (to_z w64 (of_z w64 x) *ℤ to_z w64 (of_z w64 y))
+  pub parts_fit : SFits w64 (wide x *ℤ wide y)
   parts_fit = subst (λ (z : ℤ). SFits w64 z) (sym parts_are) (size_fits (quot a g *ℤ quot c h) parts_size)
 
-  pub parts_kept : to_z w64 (of_z w64 (to_z w64 (of_z w64 x) *ℤ to_z w64 (of_z w64 y))) ≡ quot a g *ℤ quot c h
-  parts_kept = ap (λ (z : ℤ). to_z w64 (of_z w64 z)) parts_are ∙ kept (quot a g *ℤ quot c h) parts_size
+  pub parts_kept : wide (wide x *ℤ wide y) ≡ quot a g *ℤ quot c h
+  parts_kept = ap wide parts_are ∙ kept (quot a g *ℤ quot c h) parts_size

@@ -1,26 +1,12 @@
 -- The integers are a commutative ring, so that the solver works in them too. Assumes nothing.
 use Rattle.std.proofs.Common.{◌≡◌, ℤ, pos, ◌+ℤ◌, ◌*ℤ◌, neg_ℤ, arith}
 use Rattle.std.proofs.lemmas.Int.{ints}
+use lib.IntN.{+ℤ_assoc, +ℤ_comm, +ℤ_idr, +ℤ_invr, *ℤ_comm}
 use Rattle.integers.proofs.Equations.{parts, differences, naturals}
 use Rattle.integers.proofs.Ring.{CommRing}
 
-pub sum_assoc : (a b c : ℤ) → a +ℤ b +ℤ c ≡ a +ℤ (b +ℤ c)
-sum_assoc a b c = omega (arith, ints)
-
-pub sum_comm : (a b : ℤ) → a +ℤ b ≡ b +ℤ a
-sum_comm a b = omega (arith, ints)
-
-pub sum_zero : (a : ℤ) → a +ℤ pos 0 ≡ a
-sum_zero a = omega (arith, ints)
-
-pub sum_minus : (a : ℤ) → a +ℤ neg_ℤ a ≡ pos 0
-sum_minus a = omega (arith, ints)
-
 pub product_assoc : (a b c : ℤ) → a *ℤ b *ℤ c ≡ a *ℤ (b *ℤ c)
 product_assoc a b c = rw (parts a, parts b, parts c) (simp differences (omega naturals))
-
-pub product_comm : (a b : ℤ) → a *ℤ b ≡ b *ℤ a
-product_comm a b = rw (parts a, parts b) (simp differences (omega naturals))
 
 pub product_one : (a : ℤ) → a *ℤ pos 1 ≡ a
 product_one a = omega (arith, ints)
@@ -36,12 +22,12 @@ ringℤ = record {
   plus = ◌+ℤ◌;
   times = ◌*ℤ◌;
   minus = neg_ℤ;
-  plus_assoc = sum_assoc;
-  plus_comm = sum_comm;
-  plus_zero = sum_zero;
-  plus_minus = sum_minus;
+  plus_assoc = +ℤ_assoc;
+  plus_comm = +ℤ_comm;
+  plus_zero = +ℤ_idr;
+  plus_minus = +ℤ_invr;
   times_assoc = product_assoc;
-  times_comm = product_comm;
+  times_comm = *ℤ_comm;
   times_one = product_one;
   times_plus = product_sum;
 }

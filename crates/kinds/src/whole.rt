@@ -15,9 +15,9 @@ pub struct Whole {
 impl TryFrom<i32> for Whole {
     type Error = Refusal;
 
-    ghost use Rattle.kinds.specs.Wholes.{Reaches};
+    ghost use Rattle.kinds.specs.Kinds.{Takes};
 
-    ghost try_from_gives = { Reaches };
+    ghost try_from_gives = { Takes (λ w. w.number) (λ z. z) };
 
     fn try_from(number: i32) -> Result<Whole, Refusal> {
         if number.unsigned_abs() > RIGHT_SIDE_LIMIT {

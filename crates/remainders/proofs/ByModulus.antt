@@ -57,7 +57,7 @@ rest_of m a hf lf high low l h j = same m (a * f) (high % low) l (_, left_over m
 pub told_apart : {p : ℕ} (a b : Rem p) → Decides (a.value == b.value) (a ≡ b)
 told_apart {p} a b = Decides-like (a.value == b.value) (Rem_path a b) (λ e. ap (λ (r : Rem p). r.value) e) (Decides-eqb a.value b.value)
 
--- remainders of REST with the same number are the same
+-- `Rem_path` at the modulus of REST, which the tactics do not find by themselves
 pub same_value : (a b : Rem modulus) → a.value ≡ b.value → a ≡ b
 same_value a b e = Rem_path a b e
 
