@@ -1,6 +1,8 @@
 -- Products and sums of words in 64 bits: nothing is lost. Assumes nothing.
-use Rattle.std.proofs.Common.{◌≡◌, ℕ, ◌+◌, ◌<◌, ◌≤◌, ℤ, pos, negsuc, ◌+ℤ◌, ◌*ℤ◌, nat_abs, sym, ap, ◌∙◌, subst, ap₂, mul-le-mul, div-le_self, arith, w32, w64, SFits, to_z, of_z}
+use Rattle.std.proofs.Common.{◌≡◌, ℕ, ◌+◌, ◌<◌, ◌≤◌, ◌^◌, ℤ, pos, negsuc, ◌+ℤ◌, ◌*ℤ◌, nat_abs, sym, ap, ◌∙◌, subst, ap₂, mul-le-mul, div-le_self, arith, w32, w64, SFits, to_z, of_z}
 use mir.Facts.{sfits_widen}
+use Rattle.std.specs.Int.{Width}
+use mir.Val.{hbits}
 use Rattle.std.proofs.lemmas.Int.{to_z-of_z, to_z_pos, unsigned_abs-mul, ints}
 use Rattle.integers.specs.Signs.{quot}
 use Rattle.integers.proofs.Sizes.{unsigned_abs_quot}
@@ -14,16 +16,16 @@ word z = to_z w32 (of_z w32 z)
 abbrev pub wide : ℤ → ℤ
 wide z = to_z w64 (of_z w64 z)
 
-pub size_fits : (z : ℤ) → nat_abs z < 9223372036854775808 → SFits w64 z
-size_fits (pos n) h = record { sfits = h }
-size_fits (negsuc n) h = record { sfits = omega arith }
+-- at any width
+size_fits : (w : Width) (z : ℤ) → nat_abs z < 2 ^ hbits w → SFits w z
+size_fits w (pos n) h = record { sfits = h }
+size_fits w (negsuc n) h = record { sfits = omega arith }
 
 pub word_fits : (z : ℤ) → nat_abs z ≤ part_limit → SFits w32 z
-word_fits (pos n) h = record { sfits = omega arith }
-word_fits (negsuc n) h = record { sfits = omega arith }
+word_fits z h = size_fits w32 z (omega arith)
 
 pub kept : (z : ℤ) → nat_abs z < 9223372036854775808 → wide z ≡ z
-kept z h = to_z-of_z w64 z (size_fits z h)
+kept z h = to_z-of_z w64 z (size_fits w64 z h)
 
 -- a word, cast to 64 bits
 pub widened : (z : ℤ) → SFits w32 z → wide (word z) ≡ z
@@ -70,7 +72,7 @@ module _ (p : Fraction) (x : ℕ) (k : x ≤ part_limit) (q : Fraction) (y : ℕ
       subst (λ (z : ℤ). nat_abs z < 9223372036854775808) (sym both_is) (omega arith)
 
   pub sum_fits : SFits w64 both
-  sum_fits = size_fits both both_size
+  sum_fits = size_fits w64 both both_size
 
   pub sum_kept : wide both ≡ p.numerator *ℤ pos x +ℤ q.numerator *ℤ pos y
   sum_kept = kept both both_size ∙ both_is
@@ -104,7 +106,7 @@ module _ (a : ℤ) (g : ℕ) (c : ℤ) (h : ℕ) (x y : ℤ) (fa : SFits w32 a) 
       omega arith
 
   pub parts_fit : SFits w64 (wide x *ℤ wide y)
-  parts_fit = subst (λ (z : ℤ). SFits w64 z) (sym parts_are) (size_fits (quot a g *ℤ quot c h) parts_size)
+  parts_fit = subst (λ (z : ℤ). SFits w64 z) (sym parts_are) (size_fits w64 (quot a g *ℤ quot c h) parts_size)
 
   pub parts_kept : wide (wide x *ℤ wide y) ≡ quot a g *ℤ quot c h
   parts_kept = ap wide parts_are ∙ kept (quot a g *ℤ quot c h) parts_size
