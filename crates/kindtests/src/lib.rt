@@ -359,6 +359,36 @@ mod tests {
         Ok(())
     }
 
+    // Two values, held together.
+    #[derive(Clone, Copy)]
+    struct Pair {
+        a: Remainder,
+        b: Remainder,
+    }
+
+    fn total(pair: Pair) -> Result<Remainder, Reason> {
+        pair.a.sum(pair.b)
+    }
+
+    fn named(name: &str, whole: i32) -> Result<(&str, Remainder), Refusal> {
+        Ok((name, Remainder::take(whole)?))
+    }
+
+    // Values may stand in a caller's own types, which are copied as others are.
+    #[test]
+    fn values_are_held_by_callers(rt: HostRuntime) -> Result<(), Fail> {
+        let pair = Pair {
+            a: Remainder::take(9_972)?,
+            b: Remainder::take(3)?,
+        };
+        leaves(&rt, total(pair), 2)?;
+        leaves(&rt, total(pair), 2)?;
+        let (name, value) = named("steam", -1)?;
+        assert!(rt; name == "steam");
+        assert_eq!(rt; value.value(), 9_972);
+        Ok(())
+    }
+
     // Memory that is too short, full of `FILL`, is refused and stays as it was.
     fn too_short<K: Print>(rt: &impl Abort, value: K, memory: &mut [u8]) {
         let res = value.print(memory);

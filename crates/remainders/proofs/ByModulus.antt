@@ -8,6 +8,8 @@ use Rattle.integers.proofs.Primes.{prime_coprime}
 use Rattle.integers.proofs.Equations.{parts, differences, naturals, adding}
 use Rattle.algebra.specs.Remainder.{Rem, zero_r, whole_r}
 use Rattle.remainders.specs.Moduli.{modulus}
+use Rattle.remainders.specs.Remainders.{exact_r}
+use Rattle.remainders.specs.declared.Remainder.{Remainder}
 use Rattle.algebra.proofs.RemainderLaws.{Of, Of_unique, Rem_path, mod_of, self_of}
 
 -- numbers with the same remainder differ by a multiple of m, and the other way round
@@ -56,6 +58,10 @@ rest_of m a hf lf high low l h j = same m (a * f) (high % low) l (_, left_over m
 -- remainders are the same exactly when their numbers are
 pub told_apart : {p : ℕ} (a b : Rem p) → Decides (a.value == b.value) (a ≡ b)
 told_apart {p} a b = Decides-like (a.value == b.value) (Rem_path a b) (λ e. ap (λ (r : Rem p). r.value) e) (Decides-eqb a.value b.value)
+
+-- .. and so is what two stored ones stand for
+pub numbers_tell : (a b : Remainder) → Decides (a.value == b.value) (exact_r a ≡ exact_r b)
+numbers_tell a b = told_apart (exact_r a) (exact_r b)
 
 -- `Rem_path` at the modulus of REST, which the tactics do not find by themselves
 pub same_value : (a b : Rem modulus) → a.value ≡ b.value → a ≡ b

@@ -1,2 +1,3 @@
 pub mod Moduli
 pub mod Remainders
+pub mod RestValues

@@ -2,8 +2,9 @@
 ghost use Rattle.limits.specs.Limits.{rest_letters};
 ghost use Rattle.algebra.specs.Remainder.{Rem};
 ghost use Rattle.remainders.specs.Moduli.{modulus, rest_digits, modulus_prime};
-ghost use Rattle.remainders.specs.Remainders.{rest_field, misfit_r, taken_r};
+ghost use Rattle.remainders.specs.Remainders.{exact_r, rest_field, misfit_r, taken_r};
 ghost use Rattle.algebra.proofs.RemainderLaws.{whole_r_zero, whole_r_one, whole_r_plus};
+ghost use Rattle.remainders.specs.RestValues.{stored_same, value_same};
 ghost use Rattle.std.specs.Prelude.{◌≡◌, refl};
 
 use crate::Remainder;
@@ -15,7 +16,7 @@ use limits::REST;
 
 /// The remainder of the whole number, also of a negative one.
 impl From<Whole> for Remainder {
-    ghost from_gives = { λ w r. r ≡ taken_r w.number };
+    ghost from_gives = { λ w r. exact_r r ≡ taken_r w.number };
 
     fn from(whole: Whole) -> Remainder {
         Remainder {
@@ -29,7 +30,7 @@ impl Kind for Remainder {
 
     ghost field = { rest_field };
 
-    ghost exact = { λ v. v };
+    ghost exact = { exact_r };
 
     ghost misfit = { misfit_r };
 
@@ -55,7 +56,7 @@ impl Kind for Remainder {
 
     ghost stored_fits = { λ v. refl };
 
-    ghost one_form = { λ a b e. e };
+    ghost one_form = { λ a b e. stored_same a b (value_same a (exact_r b) e) };
 
     #[tactic(auto, using(crate::proofs::ByModulus::same_value))]
     fn sum(self, other: Remainder) -> Result<Remainder, Reason> {
@@ -89,7 +90,7 @@ impl Kind for Remainder {
         self.value == 0
     }
 
-    #[tactic(auto, using(crate::proofs::ByModulus::same_value))]
+    #[tactic(auto, using(crate::proofs::ByModulus::numbers_tell))]
     fn alike(self, other: Remainder) -> bool {
         self == other
     }

@@ -8,6 +8,7 @@ use Rattle.fractions.specs.Fractions.{exact_q}
 use Rattle.fractions.specs.Terms.{longest_fraction}
 use Rattle.remainders.specs.declared.Remainder.{Remainder}
 use Rattle.remainders.specs.Moduli.{rest_digits}
+use Rattle.remainders.specs.Remainders.{exact_r}
 use Rattle.texts.specs.Texts.{fraction_text, rest_text}
 use Rattle.texts.proofs.Telling.{length-fraction_text}
 
@@ -18,8 +19,8 @@ pub fraction_as_long : (v : Fraction) × (length (fraction_text (exact_q v)) ≡
 unfolding digits gcd
 fraction_as_long = (record { numerator = negsuc 2147483646; denominator = 2147483646; above = omega arith; lowest = refl; low = omega arith; fine = omega arith }, refl)
 
-pub rest_no_longer : (v : Remainder) → length (rest_text v) ≤ rest_digits
+pub rest_no_longer : (v : Remainder) → length (rest_text (exact_r v)) ≤ rest_digits
 rest_no_longer v = omega arith
 
-pub rest_as_long : (v : Remainder) × (length (rest_text v) ≡ rest_digits)
+pub rest_as_long : (v : Remainder) × (length (rest_text (exact_r v)) ≡ rest_digits)
 rest_as_long = (record { value = 0; below = omega arith }, refl)

@@ -1,6 +1,6 @@
-use Rattle.remainders.specs.Remainders.{rest_field}
+use Rattle.remainders.specs.Remainders.{exact_r, rest_field}
 use Rattle.remainders.proofs.ByModulus.{told_apart}
 use Rattle.remainders.proofs.kind.RemainderKind.is_zero.Goals as goal
 
 pub returns : goal.returns
-returns c = rw (← c.self.view_is) (told_apart _ rest_field.zero)
+returns c = told_apart (exact_r c.args.self) rest_field.zero
