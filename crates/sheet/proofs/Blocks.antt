@@ -1,21 +1,14 @@
 -- A block of numbers is judged by its first number that is out of range. Assumes nothing.
-use Rattle.std.proofs.Common.{◌≡◌, ℕ, ◌+◌, ◌-◌, ◌*◌, ◌/◌, ◌%◌, ◌<◌, ◌≤◌, Bool, true, false, List, [], length, get_or, drop, set, ℤ, pos, Some, None, Option, IfSome, MatchOption, IsTrue, cond, nat_lt, Bor, Ok, Err, sym, refl, ap, subst, ◌∙◌, arith, w32, SFits, to_z, of_z}
+use Rattle.std.proofs.Common.{◌≡◌, ℕ, ◌+◌, ◌-◌, ◌*◌, ◌%◌, ◌<◌, Bool, true, false, List, [], length, get_or, drop, set, ℤ, pos, Ok, Err, sym, ap, subst, ◌∙◌, arith, w32, SFits, to_z, of_z}
 use Rattle.std.proofs.ByRecursion.{All-get_or}
 use Rattle.std.proofs.lemmas.List.{drop_all}
-use Rattle.std.proofs.lemmas.Bool.{cond_below, cond_above}
-use Rattle.std.proofs.Math.Nat.{mul-mod_left, mul-div_cancel, lt_of_mul-lt-mul_right}
+use Rattle.std.proofs.Math.Nat.{mul-mod_left}
 use Rattle.std.proofs.lemmas.Nat.{mod-mul-add, mul-add-lt}
 use Rattle.std.proofs.lemmas.Int.{to_z-of_z}
 use Rattle.std.proofs.lemmas.List.Edits.{fill_by_more}
 use Rattle.std.proofs.lemmas.List.FromFn.{length-map-range_with_len, get_or-map-range_with_len, fill_by_all}
-use Rattle.std.specs.Option.{option_map}
-use Rattle.std.specs.List.{IsSubsliceAt}
-use Rattle.std.specs.Slice.Iter.{chunks_exact_rest, chunks_exact_size, chunks_exact_steps}
-use Rattle.std.specs.Iterator.Runs.{Run, EveryRun, SomeRun, IsChunksExactRun}
-use Rattle.std.specs.declared.slice.ChunksExact.{ChunksExact}
 use Rattle.sheet.specs.declared.refusal.Refusal.TheVariants.{NoMark, Number}
 use Rattle.sheet.specs.Checks.{Check, judged}
-use Rattle.sheet.specs.Reading.{row}
 use Rattle.sheet.specs.Numbers.{number_at, numbers, in_range, block_check, block_checks}
 use Rattle.sheet.proofs.Judged.{Holds, holds_from_judged, judged_all, judged_first}
 
@@ -88,25 +81,6 @@ pub no_remainder : (zs : List ℤ) (h w : ℕ) → length zs ≡ h * w → drop 
 no_remainder zs h w e =
     let none_over : length zs % w ≡ 0 = ap (λ n. n % w) e ∙ mul-mod_left h w in
     drop_all (length zs - length zs % w) zs (omega arith)
-
--- one of h rows of w numbers, where the rows come as chunks
-pub nth_row : (s : ChunksExact ℤ) (zs : List ℤ) (h w i : ℕ) (r : Option (Bor (List ℤ))) → 0 < chunks_exact_size s → chunks_exact_rest s ≡ zs → chunks_exact_size s ≡ w → length (chunks_exact_rest s) ≡ h * chunks_exact_size s → EveryRun (chunks_exact_steps {A = ℤ}) (λ p. 0 < chunks_exact_size p.from → IsChunksExactRun p (chunks_exact_size p.from) (chunks_exact_rest p.from)) → SomeRun (chunks_exact_steps {A = ℤ}) s (λ p. MatchOption r (IsTrue p.whole × (p.len ≤ i)) (λ x. (p.len ≡ i + 1) × (p.at i ≡ Some x))) → option_map (λ x. x.now) r ≡ cond (nat_lt i h) (Some (row w i zs)) None
-nth_row s zs h w i r wide rest size long runs some =
-    let p = some.0 in
-    let wide' : 0 < w = omega arith in
-    let long' : length zs ≡ h * w = (λ j. length (sym rest j)) ∙ long ∙ ap (λ n. h * n) size in
-    let run : IsChunksExactRun p w zs = subst (λ (q : ℕ × List ℤ). IsChunksExactRun p q.0 q.1) (λ j. ((ap chunks_exact_size some.1 ∙ size) j, (ap chunks_exact_rest some.1 ∙ rest) j)) (runs p p.seen (omega (arith, ap chunks_exact_size some.1, size))) in
-    by_cases wide' long' p r run some.2
-  where
-    by_cases : 0 < w → length zs ≡ h * w → (p : Run (chunks_exact_steps {A = ℤ})) (r : Option (Bor (List ℤ))) → IsChunksExactRun p w zs → MatchOption r (IsTrue p.whole × (p.len ≤ i)) (λ x. (p.len ≡ i + 1) × (p.at i ≡ Some x)) → option_map (λ x. x.now) r ≡ cond (nat_lt i h) (Some (row w i zs)) None
-    by_cases v l p None run m =
-        let all : p.len ≡ h = run.1 m.0 ∙ ap (λ n. n / w) l ∙ mul-div_cancel h v in
-        cond_above i h (Some (row w i zs)) None None (omega arith) refl
-    by_cases v l p (Some x) run m =
-        let fits : (i + 1) * w ≤ length zs = subst (λ n. n * w ≤ length zs) m.0 run.0 in
-        let before : i < h = lt_of_mul-lt-mul_right w (omega arith) in
-        let at : (length x.now ≡ w) × (i * w + w ≤ length zs) × IsSubsliceAt w zs (i * w) x.now = subst (λ o. IfSome o (λ x. (length x.now ≡ w) × (i * w + w ≤ length zs) × IsSubsliceAt w zs (i * w) x.now)) m.1 (run.2 i) in
-        ap Some at.2.0 ∙ cond_below i h (Some (row w i zs)) None before
 
 -- row a and column b of a block lie in it
 pub inside : (a w b h : ℕ) → a < h → b < w → a * w + b < h * w

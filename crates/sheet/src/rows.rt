@@ -1,5 +1,5 @@
 // The lines and forms of a sheet that was read, one by one.
-ghost use Rattle.std.specs.Prelude.{◌≡◌, ◌+◌, ◌≤◌, length, take, cond, nat_lt, IfSome, Some, None};
+ghost use Rattle.std.specs.Prelude.{◌≡◌, ◌+◌, ◌*◌, ◌≤◌, length, take, cond, nat_lt, IfSome, Some, None};
 ghost use Rattle.std.specs.Option.{option_map};
 ghost use Rattle.sheet.specs.Blocks.{count};
 ghost use Rattle.sheet.specs.Reading.{row, line_of, form_of};
@@ -18,13 +18,26 @@ fn rows_of(numbers: &[i32], block: Block) -> ChunksExact<'_, i32>
     numbers[..block.count()].chunks_exact(block.width)
 }
 
+/// Row `i` of some rows of numbers, counted from 0. It is found by its place, without going through the rows before it.
+fn row_at(numbers: &[i32], rows: usize, width: usize, i: usize) -> Option<&[i32]>
+    requires { length numbers.now ≡ rows * width }
+    ensures value { option_map (λ s. s.now) result ≡ cond (nat_lt i rows) (Some (row width i numbers.now)) None }
+    ensures len { IfSome result (λ s. length s.now ≡ width) }
+{
+    if i >= rows {
+        return None;
+    }
+    let start = i * width;
+    Some(&numbers[start..start + width])
+}
+
 /// Row `i` of a block, counted from 0. Its numbers stand at the front of `numbers`.
 fn row_of(numbers: &[i32], block: Block, i: usize) -> Option<&[i32]>
     requires { count block ≤ length numbers.now }
     ensures value { option_map (λ s. s.now) result ≡ cond (nat_lt i block.rows) (Some (row block.width i (take (count block) numbers.now))) None }
     ensures len { IfSome result (λ s. length s.now ≡ block.width) }
 {
-    rows_of(numbers, block).nth(i)
+    row_at(&numbers[..block.count()], block.rows, block.width, i)
 }
 
 impl Sheet {
