@@ -55,7 +55,7 @@ part_coprime a c b d g hd low e =
     (dvd_multiple (b / g) (c *ℤ pos (b / g)) c refl)
 
 module _ (a c : ℤ) (b d : ℕ) (hb : 0 < b) (hd : 0 < d) (low : gcd (nat_abs a) b ≡ 1) (low' : gcd (nat_abs c) d ≡ 1) where
-  whole_coprime : (g : ℕ) → g ≡ gcd b d → gcd (nat_abs (joint a c b d g)) (b / g * (d / g)) ≡ 1
+  pub whole_coprime : (g : ℕ) → g ≡ gcd b d → gcd (nat_abs (joint a c b d g)) (b / g * (d / g)) ≡ 1
   whole_coprime g e = coprime_times (nat_abs (joint a c b d g)) (b / g) (d / g) (part_coprime a c b d g hd low e)
       (ap (λ (x : ℤ). gcd (nat_abs x) (d / g)) (+ℤ_comm (a *ℤ pos (d / g)) (c *ℤ pos (b / g))) ∙ part_coprime c a d b g hb low' (e ∙ gcd_comm b d))
 
@@ -63,7 +63,7 @@ module _ (a c : ℤ) (b d : ℕ) (hb : 0 < b) (hd : 0 < d) (low : gcd (nat_abs a
   pub apart_lowest : gcd b d ≡ 1 → gcd (nat_abs (a *ℤ pos d +ℤ c *ℤ pos b)) (b * d) ≡ 1
   apart_lowest e = simp div-one at (whole_coprime 1 (sym e))
 
-  sum_lowest : (g h : ℕ) → g ≡ gcd b d → h ≡ gcd (nat_abs (joint a c b d g)) g → gcd (nat_abs (joint a c b d g) / h) (b / g * (d / h)) ≡ 1
+  pub sum_lowest : (g h : ℕ) → g ≡ gcd b d → h ≡ gcd (nat_abs (joint a c b d g)) g → gcd (nat_abs (joint a c b d g) / h) (b / g * (d / h)) ≡ 1
   sum_lowest g h e f = rw (sym (mul-div_assoc h (b / g) inner)) (coprime_quotients n (b / g * d) h (f ∙ same) (mul-pos (quot_pos b g both.0 hb) hd))
     where
       n : ℕ
@@ -81,7 +81,7 @@ module _ (a c : ℤ) (b d : ℕ) (hb : 0 < b) (hd : 0 < d) (low : gcd (nat_abs a
           ∙ ap (gcd n) (mul_assoc (b / g) (d / g) g ∙ ap (λ (x : ℕ). b / g * x) (div-mul_cancel g both.1))
 
 -- with b = x g, and d = y g as well as z h
-joined : (n a c : ℤ) (b d g h x y z : ℕ) → x * g ≡ b → y * g ≡ d → z * h ≡ d → n *ℤ pos h ≡ a *ℤ pos y +ℤ c *ℤ pos x
+pub joined : (n a c : ℤ) (b d g h x y z : ℕ) → x * g ≡ b → y * g ≡ d → z * h ≡ d → n *ℤ pos h ≡ a *ℤ pos y +ℤ c *ℤ pos x
     → n *ℤ pos (b * d) ≡ (a *ℤ pos d +ℤ c *ℤ pos b) *ℤ pos (x * z)
 joined n a c b d g h x y z e f i j =
     adding (neg_ℤ (pos (x * g * z))) j
@@ -114,7 +114,7 @@ module _ (a c : ℤ) (b d : ℕ) (hb : 0 < b) (hd : 0 < d) (low : gcd (nat_abs a
 
 -- ---- the product
 -- with a = m g, c = n h, b = x h and d = y g
-crossed : (m n a c : ℤ) (b d g h x y : ℕ) → m *ℤ pos g ≡ a → n *ℤ pos h ≡ c → x * h ≡ b → y * g ≡ d → (m *ℤ n) *ℤ pos (b * d) ≡ (a *ℤ c) *ℤ pos (x * y)
+pub crossed : (m n a c : ℤ) (b d g h x y : ℕ) → m *ℤ pos g ≡ a → n *ℤ pos h ≡ c → x * h ≡ b → y * g ≡ d → (m *ℤ n) *ℤ pos (b * d) ≡ (a *ℤ c) *ℤ pos (x * y)
 crossed m n a c b d g h x y e f i j = rw (← e, ← f, ← i, ← j, parts m, parts n) (simp differences (omega naturals))
 
 -- as it is worked out step by step: g is what a and d have in common, and h what c and b have

@@ -15,7 +15,7 @@ use Rattle.fractions.specs.declared.Fraction.{Fraction}
 use Rattle.fractions.proofs.Wide.{word, wide, word_fits}
 
 -- a stored numerator stands in a word
-stored : (v : Fraction) → word v.numerator ≡ v.numerator
+pub stored : (v : Fraction) → word v.numerator ≡ v.numerator
 stored v = to_z-of_z w32 v.numerator (word_fits v.numerator v.low)
 
 -- a sum over denominators that share g: n is the numerator, u its size, k its part by h, and s the share of the second denominator
@@ -27,11 +27,11 @@ module _ (p q : Fraction) (g h u s : ℕ) (n k : ℤ) (eg : g ≡ gcd p.denomina
   part_is : wide k ≡ quot n h
   part_is = to_z-of_z w64 k fk ∙ ek ∙ ap (λ (z : ℤ). quot z h) (to_z-of_z w64 n fn)
 
-  sum_above : 0 < p.denominator / g * s
+  pub sum_above : 0 < p.denominator / g * s
   sum_above = subst (λ (x : ℕ). 0 < p.denominator / g * x) (sym es)
       (shared_above p.numerator q.numerator p.denominator q.denominator p.above q.above p.lowest q.lowest g h n (wide k) eg en size part_is)
 
-  sum_low : gcd (nat_abs (wide k)) (p.denominator / g * s) ≡ 1
+  pub sum_low : gcd (nat_abs (wide k)) (p.denominator / g * s) ≡ 1
   sum_low = ap (λ (x : ℕ). gcd (nat_abs (wide k)) (p.denominator / g * x)) es
       ∙ shared_lowest p.numerator q.numerator p.denominator q.denominator p.above q.above p.lowest q.lowest g h n (wide k) eg en size part_is
 
@@ -57,11 +57,11 @@ module _ (p q : Fraction) (g h u v s t : ℕ) (n : ℤ) (eu : u ≡ nat_abs (wor
   shares_are : s * t ≡ p.denominator / h * (q.denominator / g)
   shares_are = ap₂ ◌*◌ es et
 
-  product_above : 0 < s * t
+  pub product_above : 0 < s * t
   product_above = subst (λ (x : ℕ). 0 < x) (sym shares_are)
       (cross_above p.numerator q.numerator p.denominator q.denominator g h (wide n) p.above q.above p.lowest q.lowest left right parts_are)
 
-  product_low : gcd (nat_abs (wide n)) (s * t) ≡ 1
+  pub product_low : gcd (nat_abs (wide n)) (s * t) ≡ 1
   product_low = ap (λ (x : ℕ). gcd (nat_abs (wide n)) x) shares_are
       ∙ cross_lowest p.numerator q.numerator p.denominator q.denominator g h (wide n) p.above q.above p.lowest q.lowest left right parts_are
 

@@ -7,7 +7,6 @@ use Rattle.std.proofs.lemmas.Int.{to_z-of_z, to_z_pos, unsigned_abs-mul, ints}
 use Rattle.integers.specs.Signs.{quot}
 use Rattle.integers.proofs.Sizes.{unsigned_abs_quot}
 use Rattle.fractions.specs.Terms.{part_limit}
-use Rattle.fractions.specs.declared.Fraction.{Fraction}
 
 -- an integer as it stands in a word, or in two
 abbrev pub word : ℤ → ℤ
@@ -17,7 +16,7 @@ abbrev pub wide : ℤ → ℤ
 wide z = to_z w64 (of_z w64 z)
 
 -- at any width
-size_fits : (w : Width) (z : ℤ) → nat_abs z < 2 ^ hbits w → SFits w z
+pub size_fits : (w : Width) (z : ℤ) → nat_abs z < 2 ^ hbits w → SFits w z
 size_fits w (pos n) h = record { sfits = h }
 size_fits w (negsuc n) h = record { sfits = omega arith }
 
@@ -45,40 +44,39 @@ product_size a b h k = subst (λ (x : ℕ). x ≤ square) (sym (unsigned_abs-mul
 abbrev pub wide_term : ℤ → ℕ → ℤ
 wide_term a x = wide (word a) *ℤ to_z w64 x
 
--- a numerator times a word without a sign
-module _ (p : Fraction) (x : ℕ) (k : x ≤ part_limit) where
-  term_is : wide_term p.numerator x ≡ p.numerator *ℤ pos x
-  term_is = ap₂ ◌*ℤ◌ (widened p.numerator (word_fits p.numerator p.low)) (to_z_pos w64 x (omega arith))
+module _ (a : ℤ) (x : ℕ) (h : nat_abs a ≤ part_limit) (k : x ≤ part_limit) where
+  term_is : wide_term a x ≡ a *ℤ pos x
+  term_is = ap₂ ◌*ℤ◌ (widened a (word_fits a h)) (to_z_pos w64 x (omega arith))
 
-  term_size : nat_abs (p.numerator *ℤ pos x) ≤ square
-  term_size = product_size p.numerator (pos x) p.low k
+  pub term_size : nat_abs (wide_term a x) ≤ square
+  term_size = subst (λ (z : ℤ). nat_abs z ≤ square) (sym term_is) (product_size a (pos x) h k)
 
-  term_kept : wide (wide_term p.numerator x) ≡ p.numerator *ℤ pos x
-  term_kept = ap wide term_is ∙ kept (p.numerator *ℤ pos x) (let s = term_size in omega arith)
+  pub term_kept : wide (wide_term a x) ≡ a *ℤ pos x
+  term_kept = kept (wide_term a x) (let s = term_size in omega arith) ∙ term_is
 
 -- the sum of two of these
-module _ (p : Fraction) (x : ℕ) (k : x ≤ part_limit) (q : Fraction) (y : ℕ) (j : y ≤ part_limit) where
+module _ (a : ℤ) (x : ℕ) (h : nat_abs a ≤ part_limit) (k : x ≤ part_limit) (b : ℤ) (y : ℕ) (i : nat_abs b ≤ part_limit) (j : y ≤ part_limit) where
   abbrev both : ℤ
-  both = wide (wide_term p.numerator x) +ℤ wide (wide_term q.numerator y)
+  both = wide (wide_term a x) +ℤ wide (wide_term b y)
 
-  both_is : both ≡ p.numerator *ℤ pos x +ℤ q.numerator *ℤ pos y
-  both_is = ap₂ ◌+ℤ◌ (term_kept p x k) (term_kept q y j)
+  both_is : both ≡ a *ℤ pos x +ℤ b *ℤ pos y
+  both_is = ap₂ ◌+ℤ◌ (term_kept a x h k) (term_kept b y i j)
 
-  both_size : nat_abs both < 9223372036854775808
+  pub both_size : nat_abs (a *ℤ pos x +ℤ b *ℤ pos y) < 9223372036854775808
   both_size =
-      let s = sum_size (p.numerator *ℤ pos x) (q.numerator *ℤ pos y) in
-      let t = term_size p x k in
-      let u = term_size q y j in
-      subst (λ (z : ℤ). nat_abs z < 9223372036854775808) (sym both_is) (omega arith)
+      let s = sum_size (a *ℤ pos x) (b *ℤ pos y) in
+      let t = product_size a (pos x) h k in
+      let u = product_size b (pos y) i j in
+      omega arith
 
   pub sum_fits : SFits w64 both
-  sum_fits = size_fits w64 both both_size
+  sum_fits = subst (λ (z : ℤ). SFits w64 z) (sym both_is) (size_fits w64 (a *ℤ pos x +ℤ b *ℤ pos y) both_size)
 
-  pub sum_kept : wide both ≡ p.numerator *ℤ pos x +ℤ q.numerator *ℤ pos y
-  sum_kept = kept both both_size ∙ both_is
+  pub sum_kept : wide both ≡ a *ℤ pos x +ℤ b *ℤ pos y
+  sum_kept = ap wide both_is ∙ kept (a *ℤ pos x +ℤ b *ℤ pos y) both_size
 
   pub sum_small : nat_abs (wide both) < 9223372036854775808
-  sum_small = subst (λ (z : ℤ). nat_abs z < 9223372036854775808) (sym (kept both both_size)) both_size
+  sum_small = subst (λ (z : ℤ). nat_abs z < 9223372036854775808) (sym sum_kept) both_size
 
 -- dividing makes no larger
 pub quot_size : (z : ℤ) (g : ℕ) → nat_abs (quot z g) ≤ nat_abs z

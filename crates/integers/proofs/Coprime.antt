@@ -41,7 +41,7 @@ pub dvd_multiple : (d : ℕ) (z k : ℤ) → z ≡ k *ℤ pos d → d ∣ nat_ab
 dvd_multiple d z k e = subst (λ (x : ℕ). d ∣ x) (sym (ap nat_abs e ∙ unsigned_abs-mul k (pos d))) (dvd-mul_left d (nat_abs k))
 
 -- what divides a sum and one part of it divides the other part
-dvd_other : (d : ℕ) (x y : ℤ) → d ∣ nat_abs (x +ℤ y) → d ∣ nat_abs y → d ∣ nat_abs x
+pub dvd_other : (d : ℕ) (x y : ℤ) → d ∣ nat_abs (x +ℤ y) → d ∣ nat_abs y → d ∣ nat_abs x
 dvd_other d x y h j = dvd_multiple d x (q +ℤ neg_ℤ r)
     (adding (pos 1) (quot_times (x +ℤ y) d h) (adding (neg_ℤ (pos 1)) (quot_times y d j) (rw (parts q, parts r, parts x, parts y) (simp differences (omega naturals)))))
   where

@@ -1,11 +1,15 @@
 -- The size of an integer, its quotient by a number that divides it, and cancelling. Assumes nothing.
-use Rattle.std.proofs.Common.{◌≡◌, ℕ, ◌+◌, ◌*◌, ◌/◌, ◌<◌, ℤ, pos, negsuc, ◌*ℤ◌, nat_abs, refl, ap, arith}
+use Rattle.std.proofs.Common.{◌≡◌, ℕ, ◌+◌, ◌*◌, ◌/◌, ◌<◌, false, ◌==◌, ◌≢◌, ℤ, pos, negsuc, ◌*ℤ◌, neg_ℤ, nat_abs, refl, ap, arith}
 use Prim.Native.Nat.{◌∣◌}
 use native.Mathlib.Nat.{div-mul_cancel, eq_of_mul-eq-mul_right}
+use Rattle.std.proofs.lemmas.Bool.{eqb-false}
 use Rattle.std.proofs.lemmas.Int.{ints}
 use borrow.Author.Differences.{up, down, same_in}
 use Rattle.integers.specs.Signs.{quot, with_sign}
 use Rattle.integers.proofs.Equations.{differences, naturals}
+
+pub unsigned_abs-neg_ℤ : (z : ℤ) → nat_abs (neg_ℤ z) ≡ nat_abs z
+unsigned_abs-neg_ℤ z = omega (arith, ints)
 
 pub unsigned_abs_zero : (z : ℤ) → nat_abs z ≡ 0 → z ≡ pos 0
 unsigned_abs_zero z h = omega (arith, ints)
@@ -29,3 +33,6 @@ unsigned_abs-with_sign (negsuc n) k = omega (arith, ints)
 pub times_with_sign : (z : ℤ) (k : ℕ) → z *ℤ with_sign z k ≡ pos (k * nat_abs z)
 times_with_sign (pos n) k = omega (arith, ints)
 times_with_sign (negsuc n) k = simp differences (omega naturals)
+
+pub none_zero : (z : ℤ) → (nat_abs z == 0) ≡ false → z ≢ pos 0
+none_zero z h e = eqb-false (nat_abs z) 0 h (ap nat_abs e)

@@ -61,16 +61,21 @@ flat_map_same : (f g : ℕ → List ℕ) (a n : ℕ) → ((k : ℕ) → k < a + 
 flat_map_same f g a zero same = refl
 flat_map_same f g a (suc n) same = (λ j. same a (omega arith) j ++ flat_map_same f g (a + 1) n (λ k l. same k (omega arith)) j)
 
+counting_more : (n : ℕ) → range_with_len 0 (n + 1) ≡ range_with_len 0 n ++ n ∷ []
+counting_more n = sym (map-id (range_with_len 0 (n + 1))) ∙ map-range_with_len_more (λ k. k) 0 n n (omega arith) ∙ ap (λ l. l ++ n ∷ []) (map-id (range_with_len 0 n))
+
+-- one more of the first n
+pub flat_map-range_with_len : (f : ℕ → List ℕ) (out : List ℕ) (n : ℕ) (a b : List ℕ) → a ≡ out ++ flat_map f (range_with_len 0 n) → b ≡ a ++ f n → b ≡ out ++ flat_map f (range_with_len 0 (n + 1))
+flat_map-range_with_len f out n a b p q = q ∙ ap (λ l. l ++ f n) p ∙ flat_map_more f out (range_with_len 0 n) n ∙ ap (λ l. out ++ flat_map f l) (sym (counting_more n))
+
 -- the first n of the rows, as they are written
 abbrev pub first_rows : List ℕ → ℕ → ℕ → List ℤ → ℕ → List ℕ
 first_rows name unknowns w zs n = flat_map (numbered_row name unknowns w zs) (range_with_len 0 n)
 
 pub first_rows-more : (name : List ℕ) (unknowns w : ℕ) (zs : List ℤ) (n : ℕ) (numbers : List ℤ) → numbers ≡ row w n zs → first_rows name unknowns w zs n ++ row_text name (n + 1) (take unknowns numbers) (slice_get numbers unknowns) ≡ first_rows name unknowns w zs (n + 1)
 first_rows-more name unknowns w zs n numbers is =
-    let counted : range_with_len 0 (n + 1) ≡ range_with_len 0 n ++ n ∷ [] = sym (map-id (range_with_len 0 (n + 1))) ∙ map-range_with_len_more (λ k. k) 0 n n (omega arith) ∙ ap (λ l. l ++ n ∷ []) (map-id (range_with_len 0 n)) in
-    ap (λ ns. first_rows name unknowns w zs n ++ row_text name (n + 1) (take unknowns ns) (slice_get ns unknowns)) is
-    ∙ flat_map_more (numbered_row name unknowns w zs) [] (range_with_len 0 n) n
-    ∙ ap (flat_map (numbered_row name unknowns w zs)) (sym counted)
+    flat_map-range_with_len (numbered_row name unknowns w zs) [] n _ _ refl
+    (ap (λ ns. first_rows name unknowns w zs n ++ row_text name (n + 1) (take unknowns ns) (slice_get ns unknowns)) is)
 
 -- h rows of w numbers
 module _ (h w : ℕ) (zs : List ℤ) (wide : 0 < w) (long : length zs ≡ h * w) where

@@ -1,5 +1,5 @@
--- The terms that are left of a sum while it is written. Assumes nothing.
-use Rattle.std.proofs.Common.{◌≡◌, ℕ, ◌+◌, Bool, true, false, List, [], ◌∷◌, Iter, Bor, ℤ, pos, negsuc, nat_abs, Some, None, sym, ap, subst, ◌∙◌, arith, w32, SFits, of_z}
+-- Terms as they are written, and those that are left of a sum while it is. Assumes nothing.
+use Rattle.std.proofs.Common.{◌≡◌, ℕ, ◌+◌, Bool, true, false, List, [], ◌∷◌, ◌++◌, Iter, Bor, ℤ, pos, negsuc, nat_abs, Some, None, codes, decimal, sym, ap, subst, ◌∙◌, append_assoc, arith, w32, SFits, of_z}
 use denote.Param.Members.{Mut}
 use Rattle.std.specs.Fn.{CalledAt}
 use Rattle.std.specs.Iterator.{Yields, FindsItem}
@@ -8,13 +8,22 @@ use Rattle.std.specs.List.{FoldsTo}
 use Rattle.std.specs.Slice.Iter.{iter_rest, iter_steps}
 use Rattle.std.specs.declared.iter.Enumerate.{Enumerate}
 use Rattle.std.proofs.lemmas.List.{nil_from_length}
-use Rattle.std.proofs.lemmas.Bool.{eq-eqb, ne_eqb}
-use Rattle.listing.specs.Listing.{Term, terms}
+use Rattle.std.proofs.lemmas.Bool.{cond-true, cond-false, eq-eqb, ne_eqb}
+use Rattle.listing.specs.Listing.{Term, terms, term_text}
 
-terms_skip : (k : ℕ) (c : ℤ) (cs : List ℤ) → nat_abs c ≡ 0 → terms k (c ∷ cs) ≡ terms (k + 1) cs
+pub term_of_one : (k : ℕ) (c : ℤ) → nat_abs c ≡ 1 → codes "r" ++ decimal k ≡ term_text (k, c)
+term_of_one k c h = sym (ap (λ l. l ++ (codes "r" ++ decimal k)) (cond-true _ [] (decimal (nat_abs c) ++ codes " ") (eq-eqb (nat_abs c) 1 h)))
+
+pub term_of_more : (k : ℕ) (c : ℤ) (n : ℕ) → n ≡ nat_abs c → (n ≡ 1 → ⊥) → decimal n ++ (codes " r" ++ decimal k) ≡ term_text (k, c)
+term_of_more k c n e h =
+    ap (λ m. decimal m ++ (codes " r" ++ decimal k)) e
+    ∙ sym (append_assoc (decimal (nat_abs c)) (codes " ") (codes "r" ++ decimal k))
+    ∙ sym (ap (λ l. l ++ (codes "r" ++ decimal k)) (cond-false _ [] (decimal (nat_abs c) ++ codes " ") (ne_eqb (nat_abs c) 1 (λ f. h (e ∙ f)))))
+
+pub terms_skip : (k : ℕ) (c : ℤ) (cs : List ℤ) → nat_abs c ≡ 0 → terms k (c ∷ cs) ≡ terms (k + 1) cs
 terms_skip k c cs h = rw (eq-eqb (nat_abs c) 0 h, terms)
 
-terms_step : (k : ℕ) (c : ℤ) (cs : List ℤ) → (nat_abs c ≡ 0 → ⊥) → terms k (c ∷ cs) ≡ (k, c) ∷ terms (k + 1) cs
+pub terms_step : (k : ℕ) (c : ℤ) (cs : List ℤ) → (nat_abs c ≡ 0 → ⊥) → terms k (c ∷ cs) ≡ (k, c) ∷ terms (k + 1) cs
 terms_step k c cs h = rw (ne_eqb (nat_abs c) 0 h, terms)
 
 -- the terms of the coefficients that an iterator has left

@@ -1,7 +1,7 @@
 -- What is written over memory, byte by byte and piece after piece. Assumes nothing.
-use Rattle.std.proofs.Common.{◌≡◌, ℕ, ◌+◌, ◌*◌, ◌<◌, ◌≤◌, List, [], ◌∷◌, ◌++◌, length, get_or, take, drop, sym, refl, ap, ◌∙◌, append_assoc, append-nil, add_assoc, mul-le-mul_left, mul-suc, arith, length-append, length-take-le}
+use Rattle.std.proofs.Common.{◌≡◌, ℕ, ◌+◌, ◌*◌, ◌<◌, ◌≤◌, List, [], ◌∷◌, ◌++◌, length, get_or, take, drop, set, sym, refl, ap, ◌∙◌, append_assoc, append-nil, add_assoc, mul-le-mul_left, mul-suc, arith, length-append, length-drop, length-take-le}
 use borrow.Rule.Slice.PartMut.{put_mid}
-use Rattle.std.proofs.lemmas.List.{take_at, drop_at, drop-drop, take_more}
+use Rattle.std.proofs.lemmas.List.{take_at, drop_at, drop-drop, take-append-drop, take_more, take_more_set, take_all, take-set-le, drop-set, drop-set-lt, length_push}
 use Rattle.std.proofs.lemmas.Grind.{flat_map-append}
 use Rattle.std.specs.List.{flat_map}
 use Rattle.memory.specs.Over.{over}
@@ -34,6 +34,31 @@ module _ (at : ℕ) (bs m : List ℕ) (p : ℕ) (e : at + length bs ≡ p) (fits
   over-over cs =
       ap (λ l. take p (over at bs m) ++ (cs ++ l)) (sym (drop-drop (length cs) p (over at bs m))) ∙ over_more cs (length cs) refl
 
+pub over_none : (at : ℕ) (m : List ℕ) → over at [] m ≡ m
+over_none at m = ap (λ n. take at m ++ drop n m) (omega arith) ∙ take-append-drop at m
+
+pub length_over : (at : ℕ) (bs m : List ℕ) → at + length bs ≤ length m → length (over at bs m) ≡ length m
+length_over at bs m fits =
+    length-append (take at m) (bs ++ drop (at + length bs) m)
+    ∙ omega (arith, length-take-le at m (omega arith), length-append bs (drop (at + length bs) m), length-drop (at + length bs) m)
+
+-- a byte before the rest
+pub over_after : (at b : ℕ) (bs m : List ℕ) → at < length m → over (at + 1) bs (set m at b) ≡ over at (b ∷ bs) m
+over_after at b bs m lt =
+    let behind : drop (at + 1 + length bs) (set m at b) ≡ drop (at + length (b ∷ bs)) m = drop-set-lt (at + 1 + length bs) m at b (omega arith) ∙ ap (λ (n : ℕ). drop n m) (omega arith) in
+    ap (λ (l : List ℕ). l ++ (bs ++ drop (at + 1 + length bs) (set m at b))) (take_more_set m at b lt)
+    ∙ ap (λ (l : List ℕ). (take at m ++ (b ∷ [])) ++ (bs ++ l)) behind
+    ∙ append_assoc (take at m) (b ∷ []) (bs ++ drop (at + length (b ∷ bs)) m)
+
+-- a byte behind the rest
+pub over_before : (at b : ℕ) (bs m : List ℕ) (p : ℕ) → at + length bs ≡ p → p < length m → over at bs (set m p b) ≡ over at (bs ++ (b ∷ [])) m
+over_before at b bs m p e lt =
+    let behind : drop (at + length bs) (set m p b) ≡ b ∷ drop (at + length (bs ++ (b ∷ []))) m =
+    ap (λ (n : ℕ). drop n (set m p b)) e ∙ drop-set m p b lt ∙ ap (λ (n : ℕ). b ∷ drop n m) (omega (arith, length_push bs b)) in
+    ap (λ (l : List ℕ). l ++ (bs ++ drop (at + length bs) (set m p b))) (take-set-le at m p b (omega arith))
+    ∙ ap (λ (l : List ℕ). take at m ++ (bs ++ l)) behind
+    ∙ ap (λ (l : List ℕ). take at m ++ l) (sym (append_assoc bs (b ∷ []) (drop (at + length (bs ++ (b ∷ []))) m)))
+
 -- pieces of one width, each made from a value
 module _ {X : Type 0} (f : X → List ℕ) where
   pub flat_map_push : (xs : List X) (k : ℕ) (d : X) → k < length xs → flat_map f (take (k + 1) xs) ≡ flat_map f (take k xs) ++ f (get_or xs k d)
@@ -51,3 +76,6 @@ module _ {X : Type 0} (f : X → List ℕ) where
       (λ i. put_mid (at + w * k) n (e i) (is i))
       ∙ over_more at (flat_map f (take k xs)) m (at + w * k) (ap (λ i. at + i) long) (omega arith) (f (get_or xs k d)) n (h (get_or xs k d) ∙ sym same)
       ∙ ap (λ bs. over at bs m) (sym (flat_map_push xs k d lt))
+
+  pub pieces_all : (at : ℕ) (xs : List X) (m : List ℕ) (k : ℕ) → length xs ≤ k → over at (flat_map f (take k xs)) m ≡ over at (flat_map f xs) m
+  pieces_all at xs m k l = ap (λ ys. over at (flat_map f ys) m) (take_all k xs l)

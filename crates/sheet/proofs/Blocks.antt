@@ -1,9 +1,9 @@
 -- A block of numbers is judged by its first number that is out of range. Assumes nothing.
-use Rattle.std.proofs.Common.{◌≡◌, ℕ, ◌+◌, ◌-◌, ◌*◌, ◌%◌, ◌<◌, Bool, true, false, List, [], length, get_or, drop, set, ℤ, pos, Ok, Err, sym, ap, subst, ◌∙◌, arith, w32, SFits, to_z, of_z}
+use Rattle.std.proofs.Common.{◌≡◌, ℕ, suc, ◌+◌, ◌-◌, ◌*◌, ◌%◌, ◌<◌, ◌≤◌, Bool, true, false, List, [], ◌++◌, length, get_or, take, drop, set, ℤ, pos, Ok, Err, sym, ap, subst, ◌∙◌, suc-mul, arith, w32, SFits, to_z, of_z}
 use Rattle.std.proofs.ByRecursion.{All-get_or}
-use Rattle.std.proofs.lemmas.List.{drop_all}
+use Rattle.std.proofs.lemmas.List.{take_at, drop_all}
 use Rattle.std.proofs.Math.Nat.{mul-mod_left}
-use Rattle.std.proofs.lemmas.Nat.{mod-mul-add, mul-add-lt}
+use Rattle.std.proofs.lemmas.Nat.{mod-mul-add, mul-le, mul-add-lt}
 use Rattle.std.proofs.lemmas.Int.{to_z-of_z}
 use Rattle.std.proofs.lemmas.List.Edits.{fill_by_more}
 use Rattle.std.proofs.lemmas.List.FromFn.{length-map-range_with_len, get_or-map-range_with_len, fill_by_all}
@@ -81,6 +81,13 @@ pub no_remainder : (zs : List ℤ) (h w : ℕ) → length zs ≡ h * w → drop 
 no_remainder zs h w e =
     let none_over : length zs % w ≡ 0 = ap (λ n. n % w) e ∙ mul-mod_left h w in
     drop_all (length zs - length zs % w) zs (omega arith)
+
+pub take_front : (bytes : List ℕ) (start count : ℕ) (xs rest : List ℤ) → xs ≡ numbers bytes start count → take count (xs ++ rest) ≡ numbers bytes start count
+take_front bytes start count xs rest e = take_at xs rest count (ap length e ∙ length-numbers bytes start count) ∙ e
+
+-- row i of h rows of w numbers ends within them
+pub row_ends : (i h w : ℕ) → i < h → i * w + w ≤ h * w
+row_ends i h w l = omega (arith, mul-le (suc i) w h w l (omega arith), suc-mul i w)
 
 -- row a and column b of a block lie in it
 pub inside : (a w b h : ℕ) → a < h → b < w → a * w + b < h * w

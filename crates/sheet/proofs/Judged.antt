@@ -1,5 +1,5 @@
 -- Which check decides. Assumes nothing.
-use Rattle.std.proofs.Common.{◌≡◌, ℕ, zero, suc, ◌<◌, Bool, true, false, List, [], ◌∷◌, ◌++◌, length, get_or, is_ok, Ok, Err, Result, refl, arith}
+use Rattle.std.proofs.Common.{◌≡◌, ℕ, zero, suc, ◌<◌, Bool, true, false, List, [], ◌∷◌, ◌++◌, length, get_or, is_ok, IfOk, Ok, Err, Result, refl, arith}
 use Rattle.std.specs.List.{AllByRecursion as All}
 use Rattle.sheet.specs.declared.refusal.Refusal.{Refusal}
 use Rattle.sheet.specs.Checks.{Check, judged, after}
@@ -7,6 +7,9 @@ use Rattle.sheet.specs.Checks.{Check, judged, after}
 -- a check that holds leaves the judgement to those behind it
 pub judged_holds : (t : Bool) (e : Refusal) (cs : List Check) → t ≡ true → judged ((t, e) ∷ cs) ≡ judged cs
 judged_holds t e cs h = rw h
+
+pub judged_fails : (t : Bool) (e : Refusal) (cs : List Check) → t ≡ false → judged ((t, e) ∷ cs) ≡ Err e
+judged_fails t e cs h = rw h
 
 pub judged-append : (cs ds : List Check) → judged (cs ++ ds) ≡ after (judged cs) (λ _. judged ds)
 judged-append [] ds = refl
@@ -23,6 +26,9 @@ pub judged_first : (d : Check) (cs : List Check) (i : ℕ) → i < length cs →
 judged_first d [] i l h f = absurd (omega arith)
 judged_first d (c ∷ cs) zero l h f = rw f
 judged_first d (c ∷ cs) (suc i) l h f = rw (h 0 (omega arith)) (judged_first d cs i (omega arith) (λ k m. h (suc k) (omega arith)) f)
+
+pub made_at : {X Y : Type 0} {r : Result X Y} {x : X} (P : X → Type 0) → r ≡ Ok x → P x → IfOk r P
+made_at P e p = rw e p
 
 abbrev pub Holds : Check → Type 0
 Holds c = c.0 ≡ true

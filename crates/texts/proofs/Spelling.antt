@@ -1,12 +1,16 @@
 -- Digits: how many there are, and that they tell the number. Assumes nothing.
 use Rattle.std.specs.Prelude.{◌≡◌, ℕ, zero, suc, ◌+◌, ◌-◌, ◌/◌, ◌%◌, ◌^◌, ◌<◌, ◌≤◌, [], ◌∷◌, ◌++◌, length, drop, replicate, decimal, refl}
-use Rattle.std.proofs.Common.{append_assoc, add-one, arith}
+use Rattle.std.proofs.Common.{◌∙◌, append_assoc, add-one, pow-suc, arith}
 use Rattle.std.proofs.lemmas.Fmt.{decimal_by_steps}
-use Rattle.std.proofs.lemmas.List.{length_push, drop-replicate, replicate_more}
+use Rattle.std.proofs.lemmas.List.{length_push, same_from_push, drop-replicate, replicate_more}
 use Rattle.algebra.specs.Remainder.{Rem}
 use Rattle.algebra.proofs.RemainderLaws.{Rem_path}
-use Rattle.remainders.specs.Moduli.{modulus}
+use Rattle.remainders.specs.Moduli.{modulus, rest_digits}
 use Rattle.texts.specs.Texts.{padded, rest_text}
+
+pub length-padded : (k n : ℕ) → length (padded k n) ≡ k
+length-padded zero n = refl
+length-padded (suc k) n = length_push (padded k (n / 10)) (48 + n % 10) ∙ omega (arith, length-padded k (n / 10))
 
 padded_zero : (k : ℕ) → padded k 0 ≡ replicate k 48
 padded_zero zero = refl
@@ -28,6 +32,13 @@ padded_decimal k n lt fits =
     let count : (k - length (decimal n)) + length (decimal n) ≡ k = omega arith in
     grind (arith, drop-replicate, zeros_in_front n lt (k - length (decimal n)))
 
+pub same_from_padded : (k m n : ℕ) → m < 10 ^ k → n < 10 ^ k → padded k m ≡ padded k n → m ≡ n
+same_from_padded zero m n below-m below-n e = omega arith
+same_from_padded (suc k) m n below-m below-n e =
+    let parts = same_from_push (padded k (m / 10)) (padded k (n / 10)) (48 + m % 10) (48 + n % 10) e in
+    let fronts : m / 10 ≡ n / 10 = same_from_padded k (m / 10) (n / 10) (omega (arith, pow-suc 10 k)) (omega (arith, pow-suc 10 k)) parts.0 in
+    omega (arith, parts.1)
+
 -- two remainders of one text are the same
 pub same_rest : (x y : Rem modulus) → rest_text x ≡ rest_text y → x ≡ y
-same_rest x y e = Rem_path x y (grind (arith, x.below, y.below))
+same_rest x y e = Rem_path x y (same_from_padded rest_digits x.value y.value (omega (arith, x.below)) (omega (arith, y.below)) e)

@@ -1,12 +1,12 @@
 -- The text of a fraction: how long it is, and that it tells the fraction. Assumes nothing.
 --     IsOther b   the byte b is no slash
 --     parts q     the text of q, parted at its slash
-use Rattle.std.specs.Prelude.{◌≡◌, ℕ, suc, ◌+◌, ◌%◌, ◌^◌, ◌<◌, ◌≤◌, Bool, true, false, cond, List, [], ◌∷◌, ◌++◌, length, ℤ, pos, negsuc, codes, decimal, ◌==◌, unsigned_abs, refl}
+use Rattle.std.specs.Prelude.{◌≡◌, ℕ, suc, ◌+◌, ◌%◌, ◌^◌, ◌<◌, ◌≤◌, Bool, true, false, cond, List, [], ◌∷◌, ◌++◌, length, ℤ, pos, negsuc, codes, decimal, ◌==◌, int_lt, unsigned_abs, refl}
 use Rattle.std.proofs.Common.{ap, ◌∙◌, arith, length-append, append-nil}
 use Rattle.std.specs.Int.Signed.{mag}
 use Rattle.std.specs.List.{All, slice_split}
 use Rattle.std.proofs.lemmas.Fmt.{decimal_by_steps, length-decimal-le, length_signed_le, decimal_injective, signed_decimal_injective}
-use Rattle.std.proofs.lemmas.Bool.{ne_eqb}
+use Rattle.std.proofs.lemmas.Bool.{ne_eqb, ltb-true}
 use Rattle.std.proofs.lemmas.Bool.Decides.{nat_tests}
 use Rattle.std.proofs.lemmas.List.Elements.{All-nil, All-cons, All-push}
 use Rattle.std.proofs.lemmas.List.Splits.{slice_split_none, slice_split_at}
@@ -14,7 +14,7 @@ use Rattle.std.specs.Fmt.{signed_decimal}
 use Rattle.algebra.specs.Fraction.{Q}
 use Rattle.algebra.proofs.FractionLaws.{Q_path}
 use Rattle.fractions.specs.Terms.{part_limit}
-use Rattle.texts.specs.Texts.{fraction_text}
+use Rattle.texts.specs.Texts.{under_text, fraction_text}
 
 abbrev is_slash : ℕ → Bool
 is_slash b = b == 47
@@ -34,6 +34,10 @@ no_slash_signed : (z : ℤ) → unsigned_abs z ≤ part_limit → All IsOther (s
 no_slash_signed (pos n) low = no_slash_decimal n (omega arith)
 no_slash_signed (negsuc n) low = All-cons IsOther 45 (decimal (suc n)) refl (no_slash_decimal (suc n) (omega arith))
 
+pub signed_below : (z : ℤ) → int_lt z (pos 0) ≡ true → signed_decimal z ≡ 45 ∷ decimal (unsigned_abs z)
+signed_below (pos n) e = absurd (omega (arith, ltb-true n 0 e))
+signed_below (negsuc n) e = refl
+
 small : (z : ℤ) → unsigned_abs z ≤ part_limit → mag z ≤ part_limit
 small (pos n) low = low
 small (negsuc n) low = omega arith
@@ -44,11 +48,15 @@ parts q = signed_decimal q.num ∷ cond (q.den == 1) [] (decimal q.den ∷ [])
 same_den : (c d : ℕ) → c ≤ part_limit → d ≤ part_limit → cond (c == 1) [] (decimal c ∷ []) ≡ cond (d == 1) [] (decimal d ∷ []) → c ≡ d
 same_den c d fine-c fine-d e = grind (arith, nat_tests, decimal_injective)
 
+pub length-signed : (z : ℤ) → unsigned_abs z ≤ part_limit → length (signed_decimal z) ≤ 11
+length-signed z low = let tame = small z low in length_signed_le 10 z (omega arith) (omega arith)
+
+pub length-under_text : (d : ℕ) → d ≤ part_limit → length (under_text d) ≤ 11
+length-under_text d fine = grind (arith, nat_tests, length-decimal-le 10)
+
 module _ (a : Q) (low : unsigned_abs a.num ≤ part_limit) (fine : a.den ≤ part_limit) where
   pub length-fraction_text : length (fraction_text a) ≤ 22
-  length-fraction_text =
-      let tame = small a.num low in
-      grind (arith, nat_tests, length-append, length_signed_le 10, length-decimal-le 10)
+  length-fraction_text = omega (arith, length-append (signed_decimal a.num) (under_text a.den), length-signed a.num low, length-under_text a.den fine)
 
   parted : slice_split is_slash (fraction_text a) ≡ parts a
   parted =
