@@ -54,6 +54,16 @@ impl Mark {
         }
     }
 
+    /// The letters as text.
+    fn text(self) -> &'static str
+        ensures { result.now ≡ letters self }
+    {
+        match from_utf8(self.letters()) {
+            Ok(text) => text,
+            Err(_) => unreachable(),
+        }
+    }
+
     /// The mark whose letters some bytes are, if any.
     pub fn of(bytes: &[u8]) -> Option<Mark>
         ensures { result ≡ mark_of bytes.now }
@@ -70,10 +80,7 @@ impl fmt::Display for Mark {
     ghost output = { λ m. Some (letters m) };
 
     fn fmt<W: fmt::Write>(&self, f: &mut fmt::Formatter<W>) -> fmt::Result {
-        match from_utf8(self.letters()) {
-            Ok(letters) => f.write_str(letters),
-            Err(_) => unreachable(),
-        }
+        f.write_str(self.text())
     }
 }
 
