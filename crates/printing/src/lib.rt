@@ -9,6 +9,7 @@ use arrayvec::ArrayString;
 use kinds::Kind;
 use kinds::refusal::Refusal;
 
+mod digits;
 pub mod fraction_text;
 pub mod remainder_text;
 
@@ -29,7 +30,7 @@ pub trait Print: Kind {
 
     /// Writes the text at the start of the memory and answers how many bytes it has. Memory of fewer than `LONGEST` bytes is
     /// refused and left as it was.
-    final fn print(self, memory: &mut [u8]) -> Result<usize, Refusal>
+    fn print(self, memory: &mut [u8]) -> Result<usize, Refusal>
         ensures answer { result ≡ printed Self.Kind.LONGEST (text self) memory.old }
         ensures holds { memory.new ≡ memory_after Self.Kind.LONGEST (text self) memory.old }
     {
