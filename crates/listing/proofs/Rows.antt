@@ -7,6 +7,8 @@ use Rattle.std.proofs.lemmas.List.FromFn.{map-range_with_len_more}
 use Rattle.std.proofs.lemmas.Nat.{div-mul-add}
 use Rattle.std.proofs.lemmas.Option.{slice_get-get_or, slice_get_past}
 use Rattle.std.specs.List.{range_with_len, flat_map, slice_get}
+use Rattle.std.specs.Iterator.{Yields}
+use Rattle.std.specs.Slice.Exact.{chunks_exact_steps_back}
 use Rattle.std.specs.Slice.Iter.{chunks_exact_rest, chunks_exact_size, chunks_exact_steps}
 use Rattle.std.specs.declared.slice.ChunksExact.{ChunksExact}
 use Rattle.sheet.specs.declared.format.Counts.{Counts}
@@ -104,3 +106,8 @@ module _ (s : Content) (c : Counts) (is : c ≡ s.counts) (rows : ChunksExact �
       let long : length s.forms ≡ s.counts.forms * n = (λ j. length (sym are.rest j)) ∙ are.count ∙ ap (λ w. s.counts.forms * w) are.size in
       (λ j. rows_text (codes "form") (is j).unknowns (are.size j) (are.rest j))
       ∙ rows_text-all s.counts.forms n s.forms (subst (λ w. 0 < w) are.size are.some) long (codes "form") n (form_text s) (λ k. row_text-form s k (row n k s.forms) refl)
+
+-- steps from the back leave the rows as wide as they were; the steps stand in the conclusion too, so that `grind` finds them
+pub steps_back_keep_size : (s : ChunksExact ℤ) (xs : List (Bor (List ℤ))) (t : ChunksExact ℤ) → Yields chunks_exact_steps_back s xs t → Yields chunks_exact_steps_back s xs t × (chunks_exact_size t ≡ chunks_exact_size s)
+steps_back_keep_size s [] t h = (h, ap chunks_exact_size (sym h))
+steps_back_keep_size s (x ∷ xs) t h = (h, (steps_back_keep_size h.0 xs t h.2).1 ∙ h.1.0)
