@@ -32,7 +32,7 @@ impl Print for Remainder {
         text
     }
 
-    /// The digits go straight into the memory, which takes a quarter of the time that a text on the way does.
+    /// The digits go straight into the memory, which takes a fifth of the time, or less, that a text on the way does.
     fn print(self, memory: &mut [u8]) -> Result<usize, Refusal> {
         if memory.len() < Self::LONGEST {
             return Err(Refusal::Memory);
