@@ -145,6 +145,13 @@ mod tests {
     }
 
     #[test]
+    fn shows_marks(rt: HostRuntime) -> Result<(), Fail> {
+        assert!(rt; Mark::Frac.to_string(rt.alloc())?.as_str() == "FRAC");
+        assert!(rt; Mark::Rest.to_string(rt.alloc())?.as_str() == "REST");
+        Ok(())
+    }
+
+    #[test]
     fn writes_the_widest(rt: HostRuntime) -> Result<(), Fail> {
         let mut memory = [FILL; 4017];
         let length = write(
